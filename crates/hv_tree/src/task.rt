@@ -1,0 +1,61 @@
+ghost use Rattle.std.specs.Prelude.{◌≡◌, [], ◌∷◌, ◌++◌, ◌↔◌, IfOk, IsTrue, List, ℕ};
+
+use std::alloc::{AllocError as NoMemory, Global};
+use std::marker::Model;
+
+/// A task's place in the tree of tasks, which contracts see as a list of numbers: the root is
+/// `0`, and the m-th spawn of a task, from 0, adds `m`.
+#[derive(Debug, Drop)]
+pub struct TaskId {
+    path: Vec<u32>,
+}
+
+impl Model for TaskId {
+    ghost use Rattle.std.specs.Prelude.{List, ℕ};
+
+    ghost Value = { List ℕ };
+
+    ghost view = { λ t. t.path.items };
+}
+
+impl TaskId {
+    pub fn root(alloc: Global) -> Result<TaskId, NoMemory>
+        ensures { IfOk result (λ id. id ≡ 0 ∷ []) }
+    {
+        let mut path = Vec::new(alloc);
+        path.push(0)?;
+        Ok(TaskId { path })
+    }
+
+    /// The task's spawn with the number `m`.
+    pub fn child(&self, alloc: Global, m: u32) -> Result<TaskId, NoMemory>
+        ensures { IfOk result (λ id. id ≡ self.now ++ m ∷ []) }
+    {
+        let mut path = Vec::from_slice(alloc, self.path.as_slice())?;
+        path.push(m)?;
+        Ok(TaskId { path })
+    }
+
+    pub fn copy(&self, alloc: Global) -> Result<TaskId, NoMemory>
+        ensures { IfOk result (λ id. id ≡ self.now) }
+    {
+        let path = Vec::from_slice(alloc, self.path.as_slice())?;
+        Ok(TaskId { path })
+    }
+
+    pub fn same(&self, other: &TaskId) -> bool
+        ensures { IsTrue result ↔ (self.now ≡ other.now) }
+    {
+        self.path.as_slice() == other.path.as_slice()
+    }
+}
+
+/// What stands for a task.
+pub trait Named {
+    /// The task's id.
+    ghost id: { Self → List ℕ };
+}
+
+impl Named for TaskId {
+    ghost id = { λ id. id };
+}
