@@ -1,0 +1,9 @@
+//! What a program means: its output and its end, by steps paid before they are taken.
+#![tactic(auto)]
+
+mod node;
+mod run;
+mod value;
+
+pub use node::{End, Halt, TaskNode, TrapKind};
+pub use run::plain;
