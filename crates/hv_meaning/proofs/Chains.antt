@@ -18,10 +18,8 @@ use Rattle.hv_tree.specs.declared.ast.Arg.TheViews.{the_lemmas}
 use Rattle.hv_tree.specs.declared.ast.Arg.TheFolds.{fold_out-Expr, fold_out-ExprKind}
 use Rattle.hv_meaning.specs.declared.node.Halt.{Halt}
 use Rattle.hv_meaning.specs.declared.node.Halt.TheVariants.{Stuck}
+use Rattle.hv_meaning.specs.Layers.{ExprLayer}
 use Rattle.hv_meaning.specs.Values.{Outcome, and_then, applied, chain_from, kind_value, value_of, part_value}
-
-abbrev pub ExprLayer : Type 0
-ExprLayer = ExprKind-F Arg ExprKind Step StmtKind Block Branch Call Expr PlaceExpr Stmt
 
 -- the value of an expression, from the values of its parts
 unfoldable pub value_by : ExprLayer → Outcome

@@ -1,2 +1,4 @@
+pub mod Layers
 pub mod Values
 pub mod Meaning
+pub mod Runs

@@ -21,6 +21,7 @@ use Rattle.hv_meaning.specs.declared.node.End.{End}
 use Rattle.hv_meaning.specs.declared.node.End.TheVariants.{Done, Trap, Spent}
 use Rattle.hv_meaning.specs.declared.node.Halt.{Halt}
 use Rattle.hv_meaning.specs.declared.node.Halt.TheVariants as halt
+use Rattle.hv_meaning.specs.Layers.{StmtLayer}
 use Rattle.hv_meaning.specs.Values.{Outcome, value_of}
 
 -- a number's line
@@ -44,9 +45,6 @@ halted used halt.Stuck output = None
 abbrev pub print_of : Outcome → Option TaskNode → Option TaskNode
 print_of (Ok n) rest = onto 1 (line_of n) rest
 print_of (Err h) rest = halted 1 h []
-
-abbrev pub StmtLayer : Type 0
-StmtLayer = StmtKind-F Arg ExprKind Step StmtKind Block Branch Call Expr PlaceExpr Stmt
 
 -- the value that a statement prints; there is no rule yet for the other statements
 abbrev pub printed_by : StmtLayer → Outcome

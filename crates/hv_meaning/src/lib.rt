@@ -3,7 +3,9 @@
 
 mod node;
 mod run;
+mod safe;
 mod value;
 
 pub use node::{End, Halt, TaskNode, TrapKind};
 pub use run::plain;
+pub use safe::runs_are_safe;

@@ -1,0 +1,76 @@
+-- The programs that have a meaning so far: `main` alone, which prints sums of numbers.
+use Rattle.std.specs.Prelude.{◌≡◌, Bool, true, false, ◌&&◌, List, [], ◌∷◌, Option, Some, None, codes, bytes_eq}
+use Rattle.std.specs.List.{list_all}
+use Rattle.hv_tree.specs.declared.place.Place.{Place}
+use Rattle.hv_tree.specs.declared.ast.Tree.{Tree}
+use Rattle.hv_tree.specs.declared.ast.Decl.{Decl}
+use Rattle.hv_tree.specs.declared.ast.Decl.TheVariants.{Fun}
+use Rattle.hv_tree.specs.declared.ast.FunDecl.{FunDecl}
+use Rattle.hv_tree.specs.declared.ast.Param.{Param}
+use Rattle.hv_tree.specs.declared.ast.Arg.{Arg}
+use Rattle.hv_tree.specs.declared.ast.Block.{Block, out-Block}
+use Rattle.hv_tree.specs.declared.ast.Branch.{Branch}
+use Rattle.hv_tree.specs.declared.ast.Call.{Call}
+use Rattle.hv_tree.specs.declared.ast.Expr.{Expr, out-Expr}
+use Rattle.hv_tree.specs.declared.ast.ExprKind.{ExprKind, out-ExprKind}
+use Rattle.hv_tree.specs.declared.ast.PlaceExpr.{PlaceExpr}
+use Rattle.hv_tree.specs.declared.ast.Step.{Step}
+use Rattle.hv_tree.specs.declared.ast.Stmt.{Stmt, out-Stmt}
+use Rattle.hv_tree.specs.declared.ast.StmtKind.{StmtKind, out-StmtKind}
+use Rattle.hv_tree.specs.declared.ast.Operator.{Operator}
+use Rattle.hv_tree.specs.declared.ast.Operator.TheVariants.{Add, Sub}
+use Rattle.hv_tree.specs.declared.ast.Arg.TheOpen.{ExprKind-F, StmtKind-F}
+use Rattle.hv_tree.specs.declared.types.Ty.{Ty}
+use Rattle.hv_meaning.specs.Layers.{ExprLayer, StmtLayer}
+
+abbrev pub number_by : ExprLayer → Bool
+number_by (ExprKind-F.Int n) = true
+number_by _ = false
+
+abbrev pub is_number : Expr → Bool
+is_number e = number_by (out-ExprKind (out-Expr e).kind)
+
+abbrev pub is_sign : Operator → Bool
+is_sign Add = true
+is_sign Sub = true
+is_sign _ = false
+
+-- a sign and the number behind it
+abbrev pub is_part : Operator × Place × Expr → Bool
+is_part part = is_sign part.0 && is_number part.2
+
+abbrev pub sum_by : ExprLayer → Bool
+sum_by (ExprKind-F.Int n) = true
+sum_by (ExprKind-F.Chain first parts) = is_number first && list_all is_part parts
+sum_by _ = false
+
+-- a number, or numbers with signs between them
+abbrev pub is_sum : Expr → Bool
+is_sum e = sum_by (out-ExprKind (out-Expr e).kind)
+
+abbrev pub print_by : StmtLayer → Bool
+print_by (StmtKind-F.Print e) = is_sum e
+print_by _ = false
+
+abbrev pub prints_sum : Stmt → Bool
+prints_sum stmt = print_by (out-StmtKind (out-Stmt stmt).kind)
+
+abbrev pub no_result : Option Ty → Bool
+no_result None = true
+no_result (Some ty) = false
+
+abbrev pub no_params : List Param → Bool
+no_params [] = true
+no_params (param ∷ params) = false
+
+-- the function `main` without parameters and result, which prints sums
+abbrev pub main_runs : FunDecl → Bool
+main_runs function =
+    bytes_eq function.name.text (codes "main") && (no_params function.params && (no_result function.result && list_all prints_sum (out-Block function.body).stmts))
+
+abbrev pub decls_run : List Decl → Bool
+decls_run (Fun function ∷ []) = main_runs function
+decls_run _ = false
+
+abbrev pub Runs : Tree → Type 0
+Runs tree = decls_run tree.decls ≡ true
