@@ -6,8 +6,8 @@ ghost use Rattle.hv_driver.specs.Cuts.{Lexes};
 ghost use Rattle.hv_driver.specs.Next.{next_of, IsWithin};
 
 use crate::token::{Token, TokenKind};
-use hv_tree::Place;
 use hv_items::Items;
+use hv_tree::Place;
 use std::alloc::{AllocError, Global};
 
 fn is_space(b: u8) -> bool

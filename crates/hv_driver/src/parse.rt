@@ -6,10 +6,10 @@ ghost use Rattle.hv_driver.specs.Reading.{sum_of, is_head, end_at, operator_of, 
 ghost use Rattle.hv_driver.specs.Parses.{Parses, ReadsBody};
 
 use crate::token::{Token, TokenKind};
+use hv_items::{Boxed, Items};
 use hv_tree::{
     Block, Decl, Expr, ExprKind, FunDecl, Name, Operator, Place, Stmt, StmtKind, Text, Tree,
 };
-use hv_items::{Boxed, Items};
 use std::alloc::{AllocError, Global};
 
 fn operator_of(kind: TokenKind) -> Option<Operator>
@@ -232,12 +232,7 @@ pub fn parse(alloc: Global, tokens: &[Token]) -> Result<Option<Tree>, AllocError
 }
 
 // The tree of one function `main`.
-fn program(
-    alloc: Global,
-    place: Place,
-    stmts: Items<Stmt>,
-    end: Place,
-) -> Result<Tree, AllocError>
+fn program(alloc: Global, place: Place, stmts: Items<Stmt>, end: Place) -> Result<Tree, AllocError>
     ensures { IfOk result (λ tree. tree ≡ program place stmts end) }
 {
     let text = Text::from_string(String::from_str(alloc, "main")?);

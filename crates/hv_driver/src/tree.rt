@@ -10,11 +10,14 @@ use hv_meaning::runs_are_safe;
 use hv_tree::Tree;
 use std::alloc::{AllocError, Global};
 
+// How many bytes a source may have.
+const GREATEST: usize = 1048576;
+
 /// The tree of a source, if it is of the small grammar.
 pub fn tree_of(alloc: Global, source: &[u8]) -> Result<Option<Tree>, AllocError>
     ensures { IfOk result (ReadsSource source.now) }
 {
-    if source.len() > 1048576 {
+    if source.len() > GREATEST {
         return Ok(None);
     }
     match lex(alloc, source)? {

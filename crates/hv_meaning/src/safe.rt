@@ -6,5 +6,4 @@ ghost use Rattle.hv_meaning.specs.Runs.{Runs};
 /// A program of sums is never stuck, whatever the budget.
 pub fn runs_are_safe()
     ensures { (tree : Tree) → Runs tree → IsSafe tree }
-{
-}
+{}

@@ -1,0 +1,13 @@
+//! The worked rows of the whole tool, over sources and sinks in memory.
+#![tactic(auto)]
+
+#[cfg(test)]
+mod faults;
+#[cfg(test)]
+mod real;
+#[cfg(test)]
+mod rows;
+#[cfg(test)]
+mod running;
+#[cfg(test)]
+mod trickle;
