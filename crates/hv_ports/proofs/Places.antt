@@ -1,5 +1,5 @@
 -- The file at a place.
-use Rattle.std.proofs.Common.{◌≡◌, ◌<◌, ℕ, zero, suc, true, cond, List, [], ◌∷◌, Some, None, ap, sym, ◌∙◌, map, length, drop, get_or, arith}
+use Rattle.std.proofs.Common.{◌≡◌, ◌<◌, ℕ, zero, suc, true, cond, List, [], ◌∷◌, Some, ap, sym, ◌∙◌, map, length, drop, get_or, arith}
 use Rattle.std.specs.Prelude.{String, Vec, string_bytes, bytes_eq, slice_get}
 use Rattle.std.specs.Option.{option_map}
 use Rattle.std.specs.declared.alloc.Global.{Global}

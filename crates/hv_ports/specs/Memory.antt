@@ -1,5 +1,5 @@
 -- What a source and a sink in memory hold.
-use Rattle.std.specs.Prelude.{◌≡◌, ℕ, ◌+◌, ◌-◌, ◌^◌, ◌<◌, min, Bool, true, ◌==◌, cond, List, [], ◌∷◌, Option, Some, None, String, Vec, string_bytes, bytes_eq, map, ◌⊎◌, length}
+use Rattle.std.specs.Prelude.{◌≡◌, ℕ, ◌+◌, ◌-◌, ◌^◌, ◌<◌, min, true, ◌==◌, cond, List, [], ◌∷◌, Option, Some, None, String, Vec, string_bytes, bytes_eq, length}
 use Rattle.std.specs.List.{list_any}
 use Rattle.std.specs.declared.alloc.Global.{Global}
 
