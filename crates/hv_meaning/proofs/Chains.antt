@@ -2,17 +2,9 @@
 use Rattle.std.proofs.Common.{◌≡◌, ◌<◌, ◌∙◌, ℕ, suc, ℤ, List, [], ◌∷◌, Ok, Err, refl, sym, ap, map, length, drop, get_or, rules, drop-cons}
 use Rattle.hv_tree.specs.declared.place.Place.{Place}
 use Rattle.hv_tree.specs.declared.ast.Operator.{Operator}
-use Rattle.hv_tree.specs.declared.ast.Arg.{Arg}
-use Rattle.hv_tree.specs.declared.ast.Block.{Block}
-use Rattle.hv_tree.specs.declared.ast.Branch.{Branch}
-use Rattle.hv_tree.specs.declared.ast.Call.{Call}
 use Rattle.hv_tree.specs.declared.ast.Expr.{Expr, out-Expr}
 use Rattle.hv_tree.specs.declared.ast.ExprKind.{ExprKind, out-ExprKind}
 use Rattle.hv_tree.specs.declared.ast.ExprKind.TheVariants as v
-use Rattle.hv_tree.specs.declared.ast.PlaceExpr.{PlaceExpr}
-use Rattle.hv_tree.specs.declared.ast.Step.{Step}
-use Rattle.hv_tree.specs.declared.ast.Stmt.{Stmt}
-use Rattle.hv_tree.specs.declared.ast.StmtKind.{StmtKind}
 use Rattle.hv_tree.specs.declared.ast.Arg.TheOpen.{ExprKind-F}
 use Rattle.hv_tree.specs.declared.ast.Arg.TheViews.{the_lemmas}
 use Rattle.hv_tree.specs.declared.ast.Arg.TheFolds.{fold_out-Expr, fold_out-ExprKind}

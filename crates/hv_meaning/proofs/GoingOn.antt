@@ -7,23 +7,21 @@ use Rattle.hv_tree.specs.declared.place.Place.{Place}
 use Rattle.hv_tree.specs.declared.ast.Operator.{Operator}
 use Rattle.hv_tree.specs.declared.ast.Operator.TheVariants.{Add, Sub}
 use Rattle.hv_tree.specs.declared.ast.Decl.{Decl}
-use Rattle.hv_tree.specs.declared.ast.Decl.TheVariants.{Fun, Struct}
-use Rattle.hv_tree.specs.declared.ast.FunDecl.{FunDecl}
+use Rattle.hv_tree.specs.declared.ast.Decl.TheVariants.{Fun}
 use Rattle.hv_tree.specs.declared.ast.Block.{out-Block}
 use Rattle.hv_tree.specs.declared.ast.Expr.{Expr, out-Expr}
-use Rattle.hv_tree.specs.declared.ast.ExprKind.{ExprKind, out-ExprKind}
+use Rattle.hv_tree.specs.declared.ast.ExprKind.{out-ExprKind}
 use Rattle.hv_tree.specs.declared.ast.Stmt.{Stmt, out-Stmt}
 use Rattle.hv_tree.specs.declared.ast.StmtKind.{out-StmtKind}
 use Rattle.hv_tree.specs.declared.ast.Tree.{Tree}
 use Rattle.hv_tree.specs.declared.ast.Arg.TheOpen.{ExprKind-F, StmtKind-F}
 use Rattle.hv_meaning.specs.declared.node.TaskNode.{TaskNode}
-use Rattle.hv_meaning.specs.declared.node.Halt.{Halt}
 use Rattle.hv_meaning.specs.declared.node.Halt.TheVariants.{Trap, Stuck}
 use Rattle.hv_meaning.specs.declared.node.TrapKind.TheVariants.{Overflow}
 use Rattle.hv_meaning.specs.Layers.{ExprLayer, StmtLayer}
 use Rattle.hv_meaning.specs.Values.{Outcome, is_int, checked, applied, and_then, chain_from, value_of, part_value}
-use Rattle.hv_meaning.specs.Meaning.{onto, print_of, printed_by, printed_of, run, run_main, main_of, node_of, IsSafe}
-use Rattle.hv_meaning.specs.Runs.{number_by, is_number, is_sign, is_part, sum_by, is_sum, print_by, prints_sum, no_params, no_result, decls_run, Runs}
+use Rattle.hv_meaning.specs.Meaning.{print_of, printed_by, printed_of, run, run_main, main_of, IsSafe}
+use Rattle.hv_meaning.specs.Runs.{number_by, is_number, is_sign, is_part, sum_by, print_by, prints_sum, no_params, no_result, decls_run, Runs}
 use Rattle.hv_meaning.proofs.Chains.{value_by, value_opened}
 
 -- a value or a trap

@@ -1,11 +1,8 @@
 -- A run, statement by statement.
 use Rattle.std.proofs.Common.{◌≡◌, ◌<◌, ◌+◌, ◌-◌, ◌++◌, ◌∙◌, ℕ, suc, ℤ, List, [], ◌∷◌, Some, None, Option, Ok, Err, refl, sym, ap, length, drop, get_or, arith, drop-cons, append-nil, append_assoc, add_assoc, add-one}
 use Rattle.std.specs.Prelude.{is_some, true, false}
-use Rattle.hv_tree.specs.declared.place.Place.{Place}
 use Rattle.hv_tree.specs.declared.ast.Stmt.{Stmt}
 use Rattle.hv_meaning.specs.declared.node.TaskNode.{TaskNode}
-use Rattle.hv_meaning.specs.declared.node.TrapKind.{TrapKind}
-use Rattle.hv_meaning.specs.declared.node.End.{End}
 use Rattle.hv_meaning.specs.declared.node.End.TheVariants as end_
 use Rattle.hv_meaning.specs.declared.node.Halt.{Halt}
 use Rattle.hv_meaning.specs.declared.node.Halt.TheVariants as halt

@@ -5,16 +5,9 @@ use Rattle.hv_tree.specs.declared.ast.Tree.{Tree}
 use Rattle.hv_tree.specs.declared.ast.Decl.{Decl}
 use Rattle.hv_tree.specs.declared.ast.Decl.TheVariants.{Fun, Struct}
 use Rattle.hv_tree.specs.declared.ast.FunDecl.{FunDecl}
-use Rattle.hv_tree.specs.declared.ast.Block.{Block, out-Block}
-use Rattle.hv_tree.specs.declared.ast.Branch.{Branch}
-use Rattle.hv_tree.specs.declared.ast.Call.{Call}
-use Rattle.hv_tree.specs.declared.ast.Expr.{Expr}
-use Rattle.hv_tree.specs.declared.ast.ExprKind.{ExprKind}
-use Rattle.hv_tree.specs.declared.ast.PlaceExpr.{PlaceExpr}
-use Rattle.hv_tree.specs.declared.ast.Arg.{Arg}
-use Rattle.hv_tree.specs.declared.ast.Step.{Step}
+use Rattle.hv_tree.specs.declared.ast.Block.{out-Block}
 use Rattle.hv_tree.specs.declared.ast.Stmt.{Stmt, out-Stmt}
-use Rattle.hv_tree.specs.declared.ast.StmtKind.{StmtKind, out-StmtKind}
+use Rattle.hv_tree.specs.declared.ast.StmtKind.{out-StmtKind}
 use Rattle.hv_tree.specs.declared.ast.Arg.TheOpen.{StmtKind-F}
 use Rattle.hv_meaning.specs.declared.node.TaskNode.{TaskNode}
 use Rattle.hv_meaning.specs.declared.node.End.{End}

@@ -7,16 +7,11 @@ use Rattle.hv_tree.specs.declared.ast.Decl.{Decl}
 use Rattle.hv_tree.specs.declared.ast.Decl.TheVariants.{Fun}
 use Rattle.hv_tree.specs.declared.ast.FunDecl.{FunDecl}
 use Rattle.hv_tree.specs.declared.ast.Param.{Param}
-use Rattle.hv_tree.specs.declared.ast.Arg.{Arg}
-use Rattle.hv_tree.specs.declared.ast.Block.{Block, out-Block}
-use Rattle.hv_tree.specs.declared.ast.Branch.{Branch}
-use Rattle.hv_tree.specs.declared.ast.Call.{Call}
+use Rattle.hv_tree.specs.declared.ast.Block.{out-Block}
 use Rattle.hv_tree.specs.declared.ast.Expr.{Expr, out-Expr}
-use Rattle.hv_tree.specs.declared.ast.ExprKind.{ExprKind, out-ExprKind}
-use Rattle.hv_tree.specs.declared.ast.PlaceExpr.{PlaceExpr}
-use Rattle.hv_tree.specs.declared.ast.Step.{Step}
+use Rattle.hv_tree.specs.declared.ast.ExprKind.{out-ExprKind}
 use Rattle.hv_tree.specs.declared.ast.Stmt.{Stmt, out-Stmt}
-use Rattle.hv_tree.specs.declared.ast.StmtKind.{StmtKind, out-StmtKind}
+use Rattle.hv_tree.specs.declared.ast.StmtKind.{out-StmtKind}
 use Rattle.hv_tree.specs.declared.ast.Operator.{Operator}
 use Rattle.hv_tree.specs.declared.ast.Operator.TheVariants.{Add, Sub}
 use Rattle.hv_tree.specs.declared.ast.Arg.TheOpen.{ExprKind-F, StmtKind-F}

@@ -1,4 +1,4 @@
-use Rattle.std.proofs.Common.{◌<◌, Err, FitsSigned, w64, rules, arith, ap, sym, ◌∙◌}
+use Rattle.std.proofs.Common.{◌<◌, FitsSigned, w64, rules, arith, sym, ◌∙◌}
 use Rattle.std.proofs.lemmas.Int.{to_z-of_z}
 use Rattle.hv_meaning.proofs.Runs.{printed_on, halted_at}
 use Rattle.hv_meaning.proofs.run.run_all.Goals as goal
