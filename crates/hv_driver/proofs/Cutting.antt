@@ -1,14 +1,12 @@
 -- The tokens cut so far.
-use Rattle.std.proofs.Common.{◌≡◌, ◌<◌, ◌≤◌, ◌+◌, ◌∙◌, ℕ, zero, suc, Bool, true, false, cond, List, [], ◌∷◌, ◌++◌, Option, Some, None, refl, sym, ap, subst, length, take, drop, arith, rules, append-nil, append_assoc, drop-cons}
+use Rattle.std.proofs.Common.{◌≡◌, ◌<◌, ◌≤◌, ◌+◌, ◌∙◌, ℕ, zero, suc, Bool, true, false, cond, List, [], ◌∷◌, ◌++◌, Option, Some, None, refl, sym, ap, subst, length, take, drop, arith, append-nil, append_assoc}
 use Rattle.std.proofs.lemmas.Bool.{false≢true}
 use Rattle.std.proofs.lemmas.List.{take-append-drop, take_at, drop_at, drop-drop, length-take-le, length-drop}
-use Rattle.hv_tree.specs.declared.place.Place.{Place}
 use Rattle.hv_driver.specs.declared.token.Token.{Token}
 use Rattle.hv_driver.specs.declared.token.TokenKind.{TokenKind}
-use Rattle.hv_driver.specs.Lexemes.{is_space, is_lexeme, kind_of, lexeme_len}
-use Rattle.hv_driver.specs.Cuts.{Cuts, IsPiece, AreSpaces, IsLongest, Lexes}
+use Rattle.hv_driver.specs.Lexemes.{is_space, kind_of, lexeme_len}
+use Rattle.hv_driver.specs.Cuts.{Cuts, IsPiece, Lexes}
 use Rattle.hv_driver.specs.Next.{next_of, of_kind}
-use Rattle.hv_driver.specs.declared.lex.Next.{Next}
 use Rattle.hv_driver.specs.declared.lex.Next.TheVariants.{End, Space, Lexeme, Unknown}
 use Rattle.hv_driver.proofs.Classes.{space_no_lexeme, lexeme_longest, lexeme_front, lexeme_len-le-length}
 

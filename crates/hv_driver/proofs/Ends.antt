@@ -1,11 +1,11 @@
 -- The answer and its causes.
-use Rattle.std.proofs.Common.{◌≡◌, ℕ, List, Option, Some, None, sym, ◌∙◌, inl, inr, subst}
-use Rattle.std.specs.Prelude.{◌⊎◌, IfSome}
+use Rattle.std.proofs.Common.{◌≡◌, ℕ, List, Option, Some, sym, ◌∙◌, inl, inr, subst}
+use Rattle.std.specs.Prelude.{IfSome}
 use Rattle.hv_ports.specs.Causes.{Rose}
 use Rattle.hv_meaning.specs.declared.node.End.{End}
 use Rattle.hv_meaning.specs.declared.node.End.TheVariants as end
 use Rattle.hv_driver.specs.declared.status.Status.{Status}
-use Rattle.hv_driver.specs.declared.status.Status.TheVariants.{Done, Refused, Usage, Trapped, Spent, SourceFault, SinkFault, NoMemory}
+use Rattle.hv_driver.specs.declared.status.Status.TheVariants.{Usage, SourceFault, SinkFault, NoMemory}
 use Rattle.hv_driver.specs.Delivers.{Delivers}
 use Rattle.hv_driver.specs.Answer.{Answers, AnswersFile, IfAnswered, status_of}
 use Rattle.hv_driver.specs.Took.{ReadsFile}

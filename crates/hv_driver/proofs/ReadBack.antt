@@ -1,6 +1,6 @@
 -- What is read is spelled so, and what is spelled so is read.
-use Rattle.std.proofs.Common.{◌≡◌, ◌<◌, ◌≤◌, ◌+◌, ◌∙◌, ℕ, ℤ, zero, suc, Bool, true, false, cond, ◌&&◌, List, [], ◌∷◌, ◌++◌, Option, Some, None, refl, sym, ap, subst, length, take, drop, get_or, IfSome, arith, rules, append-nil, append_assoc}
-use Rattle.std.proofs.lemmas.Bool.{false≢true, and_parts}
+use Rattle.std.proofs.Common.{◌≡◌, ◌<◌, ◌≤◌, ◌+◌, ◌∙◌, ℕ, ℤ, suc, Bool, true, false, cond, ◌&&◌, List, [], ◌∷◌, ◌++◌, Option, Some, None, refl, sym, ap, subst, length, drop, get_or, IfSome, arith, append-nil, append_assoc}
+use Rattle.std.proofs.lemmas.Bool.{and_parts}
 use Rattle.std.proofs.lemmas.List.{drop-drop, length-drop}
 use Rattle.std.specs.Option.{option_map}
 use Rattle.hv_tree.specs.declared.place.Place.{Place}
@@ -11,7 +11,7 @@ use Rattle.hv_tree.specs.declared.ast.Operator.{Operator}
 use Rattle.hv_tree.specs.declared.ast.Operator.TheVariants.{Add, Sub}
 use Rattle.hv_tree.specs.declared.ast.Expr.{Expr}
 use Rattle.hv_tree.specs.declared.ast.Stmt.{Stmt}
-use Rattle.hv_driver.specs.Grammar.{Part, number, print_at, sign_of, SpellsNumber, SpellsPart, SpellsParts, IsSum, SpellsSum, StartsWith, SpellsStmt, SpellsBody, Spells, program}
+use Rattle.hv_driver.specs.Grammar.{Part, number, print_at, sign_of, SpellsPart, SpellsParts, IsSum, SpellsSum, StartsWith, SpellsStmt, SpellsBody, program}
 use Rattle.hv_driver.specs.Parses.{ReadsBody, Parses}
 use Rattle.hv_tree.specs.declared.ast.Tree.{Tree}
 use Rattle.hv_driver.specs.Reading.{is_fun, is_main, is_print, is_open_round, is_close_round, is_open_curly, is_close_curly, is_head, end_at, onto, operator_of, number_of, part_with, part_of, before, parts_at, sum_of, sum_at, closed, stmt_at}

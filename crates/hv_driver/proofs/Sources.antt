@@ -1,5 +1,5 @@
 -- From tokens to the source.
-use Rattle.std.proofs.Common.{◌≡◌, ◌≤◌, ℕ, List, Option, Some, None, subst, length}
+use Rattle.std.proofs.Common.{◌≤◌, ℕ, List, Option, Some, None, subst, length}
 use Rattle.hv_driver.specs.declared.token.Token.{Token}
 use Rattle.hv_tree.specs.declared.ast.Tree.{Tree}
 use Rattle.hv_driver.specs.Cuts.{Lexes}

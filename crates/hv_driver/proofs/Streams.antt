@@ -1,5 +1,5 @@
 -- Bytes that a source gave and a sink took, piece after piece.
-use Rattle.std.proofs.Common.{◌≡◌, ◌≤◌, ◌<◌, ◌+◌, ◌∙◌, ℕ, zero, suc, List, [], ◌∷◌, ◌++◌, Option, Some, None, refl, sym, ap, subst, inl, inr, length, take, drop, arith, append_assoc, append-nil, length-append}
+use Rattle.std.proofs.Common.{◌≡◌, ◌≤◌, ◌+◌, ◌∙◌, ℕ, List, [], ◌++◌, Option, Some, None, refl, sym, ap, subst, inl, inr, length, take, drop, arith, append_assoc, append-nil}
 use Rattle.std.proofs.lemmas.List.{take_all, take_at, length-drop}
 use Rattle.std.proofs.Math.Seq.{take-add}
 use Rattle.std.specs.Io.KnownBytes.{Appends, Keeps, Consumes, IsAtEnd}
@@ -7,7 +7,7 @@ use Rattle.std.specs.Prelude.{IfSome}
 use Rattle.hv_ports.specs.Causes.{Rose}
 use Rattle.hv_driver.specs.declared.status.Status.{Status}
 use Rattle.hv_driver.specs.declared.status.Status.TheVariants.{SinkFault}
-use Rattle.hv_driver.specs.Delivers.{Delivers, Whole, Cut}
+use Rattle.hv_driver.specs.Delivers.{Delivers}
 use Rattle.hv_driver.specs.Took.{TakesPart, ReadsFile}
 
 pub rose_later : (a b c : ℕ) → a ≤ b → Rose b c → Rose a c

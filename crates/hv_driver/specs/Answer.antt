@@ -6,7 +6,7 @@ use Rattle.hv_meaning.specs.declared.node.End.{End}
 use Rattle.hv_meaning.specs.declared.node.End.TheVariants as end
 use Rattle.hv_meaning.specs.Meaning.{node_of}
 use Rattle.hv_driver.specs.declared.status.Status.{Status}
-use Rattle.hv_driver.specs.declared.status.Status.TheVariants.{Done, Refused, Usage, Trapped, Spent, SourceFault, SinkFault, NoMemory}
+use Rattle.hv_driver.specs.declared.status.Status.TheVariants.{Done, Refused, Trapped, Spent, SourceFault, NoMemory}
 use Rattle.hv_driver.specs.Source.{IsSource}
 use Rattle.hv_driver.specs.Report.{report_of}
 use Rattle.hv_driver.specs.Delivers.{Delivers}

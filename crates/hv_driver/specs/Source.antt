@@ -1,5 +1,5 @@
 -- A source of the small grammar.
-use Rattle.std.specs.Prelude.{◌≡◌, ℕ, ◌≤◌, List, length, Option, Some, None}
+use Rattle.std.specs.Prelude.{ℕ, ◌≤◌, List, length, Option, Some, None}
 use Rattle.hv_driver.specs.declared.token.Token.{Token}
 use Rattle.hv_tree.specs.declared.ast.Tree.{Tree}
 use Rattle.hv_driver.specs.Cuts.{Cuts}

@@ -1,5 +1,4 @@
-use Rattle.std.proofs.Common.{ap, subst, ◌∙◌, sym}
-use Rattle.std.specs.Prelude.{IfSome, take, ◌≡◌}
+use Rattle.std.proofs.Common.{subst}
 use Rattle.std.specs.Io.KnownBytes.{Keeps}
 use Rattle.std.proofs.lemmas.Result.{IfOk-weaker}
 use Rattle.hv_driver.proofs.Streams.{read_kept}

@@ -1,4 +1,4 @@
-use Rattle.std.proofs.Common.{◌≡◌, ap, sym, subst, ◌∙◌, Some, Option, List, ℕ, map}
+use Rattle.std.proofs.Common.{◌≡◌, ap, sym, subst, ◌∙◌, Some, map}
 use Rattle.std.specs.Option.{option_copied}
 use Rattle.hv_driver.specs.Words.{taken, word_of}
 use Rattle.hv_driver.specs.Answer.{Answers}
