@@ -1,2 +1,3 @@
 mod Columns
 mod Dotted
+pub mod CoreLemmas
