@@ -28,7 +28,7 @@ use Rattle.hv_tree.specs.declared.ast.Stmt.{Stmt, roll-Stmt}
 use Rattle.hv_tree.specs.declared.ast.StmtKind.{StmtKind}
 use Rattle.hv_tree.specs.declared.ast.StmtKind.TheVariants as s
 use Rattle.hv_tree.specs.Tokens.{Tokens, mark, keyword, word, number, IsName, Separated, IsInfix, Level, Ors, Ands, Comparisons, Sums, Products}
-use Rattle.hv_tree.specs.Types.{IsType, IsResult, AreParams}
+use Rattle.hv_tree.specs.Types.{IsType, IsReturn, AreParams}
 
 abbrev pub expr_at : Place → ExprKind → Expr
 expr_at at kind = roll-Expr (record { place = at; kind = kind })
@@ -114,7 +114,7 @@ mutual
         AreSteps steps a → x ≡ expr_at at (e.Count (path_of root steps)) →
         tokens ≡ keyword (codes "count") at ∷ mark (codes "(") left ∷ word root ∷ (a ++ mark (codes ")") right ∷ []) → IsPrimary x tokens
     lambda_primary : {x : Expr} {tokens : Tokens} (at o1 c1 o2 c2 : Place) (captures : List Name) (params : List Param) (result : Option Ty) (body : Block) (a b c d : Tokens) →
-        AreNames captures a → AreParams params b → IsResult result c → IsBlock body d →
+        AreNames captures a → AreParams params b → IsReturn result c → IsBlock body d →
         x ≡ expr_at at (e.Lambda captures params result body) →
         tokens ≡ keyword (codes "fun") at ∷ mark (codes "[") o1 ∷ (a ++ mark (codes "]") c1 ∷ mark (codes "(") o2 ∷ (b ++ mark (codes ")") c2 ∷ (c ++ d))) → IsPrimary x tokens
 
@@ -227,7 +227,7 @@ pub data IsDecl (d : Decl) (tokens : Tokens) : Type 0 where
       AreFields fields a → d ≡ decl.Struct (record { name = name; fields = fields }) →
       tokens ≡ keyword (codes "struct") at ∷ word name ∷ mark (codes "{") left ∷ (a ++ mark (codes "}") right ∷ []) → IsDecl d tokens
   function : (at left right : Place) (name : Name) (params : List Param) (result : Option Ty) (body : Block) (a b c : Tokens) →
-      AreParams params a → IsResult result b → IsBlock body c → d ≡ decl.Fun (record { name = name; params = params; result = result; body = body }) →
+      AreParams params a → IsReturn result b → IsBlock body c → d ≡ decl.Fun (record { name = name; params = params; result = result; body = body }) →
       tokens ≡ keyword (codes "fun") at ∷ word name ∷ mark (codes "(") left ∷ (a ++ mark (codes ")") right ∷ (b ++ c)) → IsDecl d tokens
 
 -- program := (struct | function)*

@@ -58,3 +58,8 @@ pub data IsParam (param : Param) (tokens : Tokens) : Type 0 where
 pub data AreParams (params : List Param) (tokens : Tokens) : Type 0 where
   none : params ≡ [] → tokens ≡ [] → AreParams params tokens
   some : Separated IsParam params tokens → AreParams params tokens
+
+-- ('->' type)?
+pub data IsReturn (result : Option Ty) (tokens : Tokens) : Type 0 where
+  absent : result ≡ None → tokens ≡ [] → IsReturn result tokens
+  present : (arrow : Place) (t : Ty) (a : Tokens) → IsType t a → result ≡ Some t → tokens ≡ mark (codes "->") arrow ∷ a → IsReturn result tokens
