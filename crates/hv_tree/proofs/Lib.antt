@@ -1,3 +1,4 @@
 mod Columns
 mod Dotted
 pub mod CoreLemmas
+mod Examples

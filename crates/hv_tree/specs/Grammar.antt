@@ -47,18 +47,18 @@ path_of root steps = roll-PlaceExpr (record { root = root; steps = steps })
 
 -- (Word (',' Word)*)?
 pub data AreNames (names : List Name) (tokens : Tokens) : Type 0 where
-  none : names ≡ [] → tokens ≡ [] → AreNames names tokens
-  some : Separated IsName names tokens → AreNames names tokens
+  no_names : names ≡ [] → tokens ≡ [] → AreNames names tokens
+  some_names : Separated IsName names tokens → AreNames names tokens
 
 -- ';'?
 pub data IsOptionalSemicolon (tokens : Tokens) : Type 0 where
-  absent : tokens ≡ [] → IsOptionalSemicolon tokens
-  present : (at : Place) → tokens ≡ mark (codes ";") at ∷ [] → IsOptionalSemicolon tokens
+  no_semicolon : tokens ≡ [] → IsOptionalSemicolon tokens
+  one_semicolon : (at : Place) → tokens ≡ mark (codes ";") at ∷ [] → IsOptionalSemicolon tokens
 
 -- (':' type)?
 pub data IsTaskType (result : Option Ty) (tokens : Tokens) : Type 0 where
-  absent_task : result ≡ None → tokens ≡ [] → IsTaskType result tokens
-  present_task : (colon : Place) (t : Ty) (a : Tokens) → IsType t a → result ≡ Some t → tokens ≡ mark (codes ":") colon ∷ a → IsTaskType result tokens
+  no_task_type : result ≡ None → tokens ≡ [] → IsTaskType result tokens
+  one_task_type : (colon : Place) (t : Ty) (a : Tokens) → IsType t a → result ≡ Some t → tokens ≡ mark (codes ":") colon ∷ a → IsTaskType result tokens
 
 mutual
   -- an operand of the level
@@ -217,23 +217,23 @@ mutual
 
 -- ('var' Word ':' type ';'?)*
 pub data AreFields : List Field → Tokens → Type 0 where
-  none : {fields : List Field} {tokens : Tokens} → fields ≡ [] → tokens ≡ [] → AreFields fields tokens
-  more : {fields : List Field} {tokens : Tokens} (var colon : Place) (name : Name) (t : Ty) (rest : List Field) (a m b : Tokens) →
+  no_fields : {fields : List Field} {tokens : Tokens} → fields ≡ [] → tokens ≡ [] → AreFields fields tokens
+  more_fields : {fields : List Field} {tokens : Tokens} (var colon : Place) (name : Name) (t : Ty) (rest : List Field) (a m b : Tokens) →
       IsType t a → IsOptionalSemicolon m → AreFields rest b → fields ≡ record { name = name; ty = t } ∷ rest →
       tokens ≡ keyword (codes "var") var ∷ word name ∷ mark (codes ":") colon ∷ (a ++ (m ++ b)) → AreFields fields tokens
 
 pub data IsDecl (d : Decl) (tokens : Tokens) : Type 0 where
-  struct : (at left right : Place) (name : Name) (fields : List Field) (a : Tokens) →
+  struct_decl : (at left right : Place) (name : Name) (fields : List Field) (a : Tokens) →
       AreFields fields a → d ≡ decl.Struct (record { name = name; fields = fields }) →
       tokens ≡ keyword (codes "struct") at ∷ word name ∷ mark (codes "{") left ∷ (a ++ mark (codes "}") right ∷ []) → IsDecl d tokens
-  function : (at left right : Place) (name : Name) (params : List Param) (result : Option Ty) (body : Block) (a b c : Tokens) →
+  fun_decl : (at left right : Place) (name : Name) (params : List Param) (result : Option Ty) (body : Block) (a b c : Tokens) →
       AreParams params a → IsReturn result b → IsBlock body c → d ≡ decl.Fun (record { name = name; params = params; result = result; body = body }) →
       tokens ≡ keyword (codes "fun") at ∷ word name ∷ mark (codes "(") left ∷ (a ++ mark (codes ")") right ∷ (b ++ c)) → IsDecl d tokens
 
 -- program := (struct | function)*
 pub data AreDecls : List Decl → Tokens → Type 0 where
-  none : {decls : List Decl} {tokens : Tokens} → decls ≡ [] → tokens ≡ [] → AreDecls decls tokens
-  more : {decls : List Decl} {tokens : Tokens} (d : Decl) (rest : List Decl) (a b : Tokens) →
+  no_decls : {decls : List Decl} {tokens : Tokens} → decls ≡ [] → tokens ≡ [] → AreDecls decls tokens
+  more_decls : {decls : List Decl} {tokens : Tokens} (d : Decl) (rest : List Decl) (a b : Tokens) →
       IsDecl d a → AreDecls rest b → decls ≡ d ∷ rest → tokens ≡ a ++ b → AreDecls decls tokens
 
 -- the tokens are one way to write the tree

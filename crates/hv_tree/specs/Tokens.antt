@@ -27,11 +27,11 @@ number value at = record { kind = kind.Number value; place = at }
 
 -- `conv?`. Without a word it is `let`.
 pub data IsConv (c : Conv) (tokens : Tokens) : Type 0 where
-  absent : c ≡ conv.Let → tokens ≡ [] → IsConv c tokens
-  let' : (at : Place) → c ≡ conv.Let → tokens ≡ keyword (codes "let") at ∷ [] → IsConv c tokens
-  inout : (at : Place) → c ≡ conv.Inout → tokens ≡ keyword (codes "inout") at ∷ [] → IsConv c tokens
-  sink : (at : Place) → c ≡ conv.Sink → tokens ≡ keyword (codes "sink") at ∷ [] → IsConv c tokens
-  set : (at : Place) → c ≡ conv.Set → tokens ≡ keyword (codes "set") at ∷ [] → IsConv c tokens
+  no_conv : c ≡ conv.Let → tokens ≡ [] → IsConv c tokens
+  let_conv : (at : Place) → c ≡ conv.Let → tokens ≡ keyword (codes "let") at ∷ [] → IsConv c tokens
+  inout_conv : (at : Place) → c ≡ conv.Inout → tokens ≡ keyword (codes "inout") at ∷ [] → IsConv c tokens
+  sink_conv : (at : Place) → c ≡ conv.Sink → tokens ≡ keyword (codes "sink") at ∷ [] → IsConv c tokens
+  set_conv : (at : Place) → c ≡ conv.Set → tokens ≡ keyword (codes "set") at ∷ [] → IsConv c tokens
 
 -- the levels of binary operators, the loosest first
 pub data Level : Type 0 where
@@ -43,24 +43,24 @@ pub data Level : Type 0 where
 
 -- an operator's spelling and level
 pub data IsInfix (at : Place) : Level → Operator → Token → Type 0 where
-  or : IsInfix at Ors operator.Or (mark (codes "||") at)
-  and : IsInfix at Ands operator.And (mark (codes "&&") at)
-  eq : IsInfix at Comparisons operator.Eq (mark (codes "==") at)
-  ne : IsInfix at Comparisons operator.Ne (mark (codes "!=") at)
-  lt : IsInfix at Comparisons operator.Lt (mark (codes "<") at)
-  le : IsInfix at Comparisons operator.Le (mark (codes "<=") at)
-  gt : IsInfix at Comparisons operator.Gt (mark (codes ">") at)
-  ge : IsInfix at Comparisons operator.Ge (mark (codes ">=") at)
-  add : IsInfix at Sums operator.Add (mark (codes "+") at)
-  sub : IsInfix at Sums operator.Sub (mark (codes "-") at)
-  mul : IsInfix at Products operator.Mul (mark (codes "*") at)
-  div : IsInfix at Products operator.Div (mark (codes "/") at)
-  rem : IsInfix at Products operator.Rem (mark (codes "%") at)
+  or_sign : IsInfix at Ors operator.Or (mark (codes "||") at)
+  and_sign : IsInfix at Ands operator.And (mark (codes "&&") at)
+  eq_sign : IsInfix at Comparisons operator.Eq (mark (codes "==") at)
+  ne_sign : IsInfix at Comparisons operator.Ne (mark (codes "!=") at)
+  lt_sign : IsInfix at Comparisons operator.Lt (mark (codes "<") at)
+  le_sign : IsInfix at Comparisons operator.Le (mark (codes "<=") at)
+  gt_sign : IsInfix at Comparisons operator.Gt (mark (codes ">") at)
+  ge_sign : IsInfix at Comparisons operator.Ge (mark (codes ">=") at)
+  add_sign : IsInfix at Sums operator.Add (mark (codes "+") at)
+  sub_sign : IsInfix at Sums operator.Sub (mark (codes "-") at)
+  mul_sign : IsInfix at Products operator.Mul (mark (codes "*") at)
+  div_sign : IsInfix at Products operator.Div (mark (codes "/") at)
+  rem_sign : IsInfix at Products operator.Rem (mark (codes "%") at)
 
 -- one or more parts with commas between
 pub data Separated {A : Type 0} (Is : A → Tokens → Type 0) : List A → Tokens → Type 0 where
-  one : {parts : List A} {tokens : Tokens} (part : A) → Is part tokens → parts ≡ part ∷ [] → Separated Is parts tokens
-  more : {parts : List A} {tokens : Tokens} (part : A) (a : Tokens) (comma : Place) (rest : List A) (b : Tokens) →
+  one_part : {parts : List A} {tokens : Tokens} (part : A) → Is part tokens → parts ≡ part ∷ [] → Separated Is parts tokens
+  more_parts : {parts : List A} {tokens : Tokens} (part : A) (a : Tokens) (comma : Place) (rest : List A) (b : Tokens) →
       Is part a → Separated Is rest b →
       parts ≡ part ∷ rest → tokens ≡ a ++ mark (codes ",") comma ∷ b → Separated Is parts tokens
 
