@@ -199,7 +199,7 @@ alone_while k at test body e = ap (λ (f : Place → CoreStmt). f at) (fold_out-
 
 pub alone_return : (k : StmtKind) (at : Place) → out-StmtKind k ≡ StmtKind-F.Return None → core_stmt_kind k at ≡ Return at
 unfolding core_of core_kind core_step core_arg core_place core_call core_block core_branch core_stmt core_stmt_kind
-alone_return k at  e = ap (λ (f : Place → CoreStmt). f at) (fold_out-StmtKind _ _ _ _ _ _ _ _ _ _ _ _ _ _ _ _ _ _ _ _ k) ∙ rw e refl
+alone_return k at e = ap (λ (f : Place → CoreStmt). f at) (fold_out-StmtKind _ _ _ _ _ _ _ _ _ _ _ _ _ _ _ _ _ _ _ _ k) ∙ rw e refl
 
 pub alone_return_with : (k : StmtKind) (at : Place) (x : Expr) → out-StmtKind k ≡ StmtKind-F.Return (Some x) → core_stmt_kind k at ≡ ReturnWith at (core_of x)
 unfolding core_of core_kind core_step core_arg core_place core_call core_block core_branch core_stmt core_stmt_kind
@@ -247,7 +247,7 @@ pub stmt_while : (s : Stmt) (test : Expr) (body : Block) → (out-Stmt s).kind �
 stmt_while s test body h = opened_stmt s ∙ ap (λ (k : StmtKind). core_stmt_kind k (out-Stmt s).place) h ∙ alone_while (stmt.While test body) (out-Stmt s).place test body (search the_lemmas)
 
 pub stmt_return : (s : Stmt) → (out-Stmt s).kind ≡ stmt.Return None → core_stmt s ≡ Return (out-Stmt s).place
-stmt_return s  h = opened_stmt s ∙ ap (λ (k : StmtKind). core_stmt_kind k (out-Stmt s).place) h ∙ alone_return (stmt.Return None) (out-Stmt s).place  (search the_lemmas)
+stmt_return s h = opened_stmt s ∙ ap (λ (k : StmtKind). core_stmt_kind k (out-Stmt s).place) h ∙ alone_return (stmt.Return None) (out-Stmt s).place (search the_lemmas)
 
 pub stmt_return_with : (s : Stmt) (x : Expr) → (out-Stmt s).kind ≡ stmt.Return (Some x) → core_stmt s ≡ ReturnWith (out-Stmt s).place (core_of x)
 stmt_return_with s x h = opened_stmt s ∙ ap (λ (k : StmtKind). core_stmt_kind k (out-Stmt s).place) h ∙ alone_return_with (stmt.Return (Some x)) (out-Stmt s).place x (search the_lemmas)

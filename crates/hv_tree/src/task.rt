@@ -51,6 +51,7 @@ impl TaskId {
         self.path.as_slice() == other.path.as_slice()
     }
 
+    #[tactic(auto, using(crate::proofs::Dotted::first_number, crate::proofs::Dotted::further_number))]
     /// The numbers in decimal with dots between them, as `0.2.1`.
     pub fn text(&self, alloc: Global) -> Result<Vec<u8>, NoMemory>
         ensures { IfOk result (λ text. text.items ≡ join_with_byte 46 (map decimal self.now)) }
