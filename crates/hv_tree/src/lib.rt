@@ -6,6 +6,8 @@ pub mod builders;
 mod place;
 mod refusal;
 mod task;
+#[cfg(test)]
+mod tests;
 mod text;
 mod token;
 mod types;
