@@ -1,5 +1,5 @@
 -- What the plain form of each part is, by the part's variant. The lemmas are named by the variant: of the variant's kind alone, and of a part that has this kind, as code meets it.
-use Rattle.std.proofs.Common.{◌≡◌, ℕ, ℤ, Bool, List, [], ◌∷◌, map, Option, Some, None, refl, sym, ap, ◌∙◌}
+use Rattle.std.proofs.Common.{◌≡◌, ℤ, Bool, List, map, Option, Some, None, refl, ap, ◌∙◌}
 use Rattle.hv_tree.specs.declared.place.Place.{Place}
 use Rattle.hv_tree.specs.declared.types.Name.{Name}
 use Rattle.hv_tree.specs.declared.types.Conv.{Conv}
@@ -24,12 +24,12 @@ use Rattle.hv_tree.specs.declared.ast.ExprKind.TheVariants as expr
 use Rattle.hv_tree.specs.declared.ast.StmtKind.TheVariants as stmt
 use Rattle.hv_tree.specs.declared.ast.Step.TheVariants as step
 use Rattle.hv_tree.specs.declared.ast.Arg.TheVariants as arg
-use Rattle.hv_tree.specs.declared.ast.Arg.TheOpen.{Arg-F, ExprKind-F, Step-F, StmtKind-F, Block-F, Branch-F, Call-F, Expr-F, PlaceExpr-F, Stmt-F}
+use Rattle.hv_tree.specs.declared.ast.Arg.TheOpen.{Arg-F, ExprKind-F, Step-F, StmtKind-F}
 use Rattle.hv_tree.specs.declared.ast.Arg.TheFolds.{fold_out-Arg, fold_out-ExprKind, fold_out-Step, fold_out-StmtKind, fold_out-Block, fold_out-Branch, fold_out-Call, fold_out-Expr, fold_out-PlaceExpr, fold_out-Stmt}
 use Rattle.hv_tree.specs.declared.ast.Arg.TheViews.{the_lemmas}
-use Rattle.hv_tree.specs.Core.{CoreTy, IntTy, BoolTy, NamedTy, ArrayTy, FunTy, FunToTy, core_tys_of, fun_core, core_ty, core_option_ty, core_param, ty_core}
-use Rattle.hv_tree.specs.Core.{CoreExpr, Number, Truth, Path, Calls, Awaits, Array, Filled, Count, Lambda, Prefix, Chain, CoreSteps, NoSteps, FieldStep, IndexStep, CoreCall, CallOf, CoreArgs, NoArgs, ValueArg, RefArg, CoreBlock, BlockOf, CoreBranches, BranchOf, CoreStmt, Var, VarWith, Let, Inout, Assign, If, While, Return, ReturnWith, Print, Task, AwaitsAlone, CallsAlone, Bare}
-use Rattle.hv_tree.specs.Core.{core_of, core_kind, core_step, core_arg, core_place, core_call, core_block, core_branch, core_stmt, core_stmt_kind, core_steps, core_args, core_exprs, core_links, core_stmts, core_branches, var_of, return_of}
+use Rattle.hv_tree.specs.Core.{IntTy, BoolTy, NamedTy, ArrayTy, FunTy, FunToTy, core_tys_of, core_ty, core_option_ty, core_param}
+use Rattle.hv_tree.specs.Core.{CoreExpr, Number, Truth, Path, Calls, Awaits, Array, Filled, Count, Lambda, Prefix, Chain, CoreSteps, FieldStep, IndexStep, CallOf, CoreArgs, ValueArg, RefArg, BlockOf, CoreBranches, BranchOf, CoreStmt, Var, VarWith, Let, Inout, Assign, If, While, Return, ReturnWith, Print, Task, AwaitsAlone, CallsAlone, Bare}
+use Rattle.hv_tree.specs.Core.{core_of, core_kind, core_step, core_arg, core_place, core_call, core_block, core_branch, core_stmt, core_stmt_kind, core_steps, core_args, core_exprs, core_links, core_stmts, core_branches}
 
 -- ---- structs
 

@@ -4,6 +4,7 @@ mod Dotted
 -- the equations of the plain form
 pub mod CoreLemmas
 -- the definitions, seen to hold and to fail
+pub mod Refused
 mod Examples
 mod NotSpelled
 mod PrintedExamples

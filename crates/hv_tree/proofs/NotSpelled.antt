@@ -1,5 +1,5 @@
 -- Lists of tokens that spell no expression: `- - 1`, `a < b < c` and `f(x)(y)`.
-use Rattle.std.proofs.Common.{◌≡◌, ◌≢◌, ℕ, pos, List, [], ◌∷◌, ◌++◌, Bool, true, false, not, cond, ◌&&◌, ◌||◌, refl, sym, subst, ap, ◌∙◌, codes}
+use Rattle.std.proofs.Common.{◌≡◌, ◌≢◌, ℕ, pos, List, [], ◌∷◌, ◌++◌, Bool, true, false, cond, ◌&&◌, ◌||◌, refl, sym, subst, ap, ◌∙◌, codes}
 use Rattle.std.proofs.lemmas.List.{append_assoc}
 use Rattle.hv_tree.specs.declared.place.Place.{Place}
 use Rattle.hv_tree.specs.declared.token.Token.{Token}
@@ -10,7 +10,7 @@ use Rattle.hv_tree.specs.declared.ast.Expr.{Expr}
 use Rattle.hv_tree.specs.declared.ast.Step.{Step}
 use Rattle.hv_tree.specs.declared.ast.Arg.{Arg}
 use Rattle.hv_tree.specs.declared.ast.Call.{Call}
-use Rattle.hv_tree.specs.Tokens.{Tokens, mark, keyword, word, number, Level, Ors, Ands, Comparisons, Sums, Products, IsInfix, or_sign, and_sign, eq_sign, ne_sign, lt_sign, le_sign, gt_sign, ge_sign, add_sign, sub_sign, mul_sign, div_sign, rem_sign}
+use Rattle.hv_tree.specs.Tokens.{Tokens, mark, word, number, Level, Ors, Ands, Comparisons, Sums, Products, IsInfix, or_sign, and_sign, eq_sign, ne_sign, lt_sign, le_sign, gt_sign, ge_sign, add_sign, sub_sign, mul_sign, div_sign, rem_sign}
 use Rattle.hv_tree.specs.Refusal.{is_mark}
 use Rattle.hv_tree.specs.Grammar.{IsOperand, and_operand, comparison_operand, sum_operand, product_operand, unary_operand, IsLevel, alone_level, chain_level, AreLinks, last_link, more_link, IsUnary, plain_unary, negated_unary, inverted_unary}
 use Rattle.hv_tree.specs.Grammar.{IsPrimary, numeral_primary, truth_primary, falsehood_primary, path_primary, call_primary, group_primary, await_primary, array_primary, filled_primary, count_primary, lambda_primary, AreElements, one_element, more_element}

@@ -1,5 +1,5 @@
 -- The tree as plain data of the logic, so that definitions and laws go by its structure. Each constructor has what the part has, its place first; a list is a chain that ends in a constructor of its own, and a part that may lack is told by two constructors.
-use Rattle.std.specs.Prelude.{ℕ, ℤ, Bool, List, [], ◌∷◌, map, Option, Some, None}
+use Rattle.std.specs.Prelude.{ℤ, Bool, List, [], ◌∷◌, map, Option, Some, None}
 use Rattle.hv_tree.specs.declared.place.Place.{Place}
 use Rattle.hv_tree.specs.declared.types.Name.{Name}
 use Rattle.hv_tree.specs.declared.types.Conv.{Conv}
@@ -9,8 +9,6 @@ use Rattle.hv_tree.specs.declared.types.Ty.TheFolds.{fold-Ty}
 use Rattle.hv_tree.specs.declared.ast.Operator.{Operator}
 use Rattle.hv_tree.specs.declared.ast.Param.{Param}
 use Rattle.hv_tree.specs.declared.ast.Field.{Field}
-use Rattle.hv_tree.specs.declared.ast.StructDecl.{StructDecl}
-use Rattle.hv_tree.specs.declared.ast.FunDecl.{FunDecl}
 use Rattle.hv_tree.specs.declared.ast.Decl.{Decl}
 use Rattle.hv_tree.specs.declared.ast.Decl.TheVariants as decl
 use Rattle.hv_tree.specs.declared.ast.Tree.{Tree}

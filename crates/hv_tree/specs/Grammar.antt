@@ -1,5 +1,5 @@
 -- The productions of expressions, statements and declarations.
-use Rattle.std.specs.Prelude.{◌≡◌, ◌≢◌, ℕ, List, [], ◌∷◌, ◌++◌, ◌⊎◌, Option, Some, None, Bool, true, false, codes, ℤ}
+use Rattle.std.specs.Prelude.{◌≡◌, ◌≢◌, List, [], ◌∷◌, ◌++◌, Option, Some, None, true, false, codes, ℤ}
 use Rattle.hv_tree.specs.declared.place.Place.{Place}
 use Rattle.hv_tree.specs.declared.token.Token.{Token}
 use Rattle.hv_tree.specs.declared.types.Name.{Name}
@@ -7,15 +7,13 @@ use Rattle.hv_tree.specs.declared.ast.Operator.{Operator}
 use Rattle.hv_tree.specs.declared.ast.Operator.TheVariants as operator
 use Rattle.hv_tree.specs.declared.ast.Param.{Param}
 use Rattle.hv_tree.specs.declared.ast.Field.{Field}
-use Rattle.hv_tree.specs.declared.ast.StructDecl.{StructDecl}
-use Rattle.hv_tree.specs.declared.ast.FunDecl.{FunDecl}
 use Rattle.hv_tree.specs.declared.ast.Decl.{Decl}
 use Rattle.hv_tree.specs.declared.ast.Decl.TheVariants as decl
 use Rattle.hv_tree.specs.declared.ast.Tree.{Tree}
 use Rattle.hv_tree.specs.declared.types.Ty.{Ty}
 use Rattle.hv_tree.specs.declared.ast.Expr.{Expr, roll-Expr, out-Expr}
 use Rattle.hv_tree.specs.declared.ast.ExprKind.{ExprKind}
-use Rattle.hv_tree.specs.declared.ast.ExprKind.TheVariants as e
+use Rattle.hv_tree.specs.declared.ast.ExprKind.TheVariants as expr
 use Rattle.hv_tree.specs.declared.ast.PlaceExpr.{PlaceExpr, roll-PlaceExpr}
 use Rattle.hv_tree.specs.declared.ast.Step.{Step}
 use Rattle.hv_tree.specs.declared.ast.Step.TheVariants as step
@@ -26,7 +24,7 @@ use Rattle.hv_tree.specs.declared.ast.Block.{Block, roll-Block}
 use Rattle.hv_tree.specs.declared.ast.Branch.{Branch, roll-Branch}
 use Rattle.hv_tree.specs.declared.ast.Stmt.{Stmt, roll-Stmt}
 use Rattle.hv_tree.specs.declared.ast.StmtKind.{StmtKind}
-use Rattle.hv_tree.specs.declared.ast.StmtKind.TheVariants as s
+use Rattle.hv_tree.specs.declared.ast.StmtKind.TheVariants as stmt
 use Rattle.hv_tree.specs.Tokens.{Tokens, mark, keyword, word, number, IsName, Separated, IsInfix, Level, Ors, Ands, Comparisons, Sums, Products}
 use Rattle.hv_tree.specs.Types.{IsType, IsReturn, AreParams}
 
@@ -74,7 +72,7 @@ mutual
     alone_level : {l : Level} {x : Expr} {tokens : Tokens} → IsOperand l x tokens → IsLevel l x tokens
     chain_level : {l : Level} {x : Expr} {tokens : Tokens} (first : Expr) (links : List (Operator × Place × Expr)) (a b : Tokens) →
         IsOperand l first a → AreLinks l links b →
-        x ≡ expr_at (place_of first) (e.Chain first links) → tokens ≡ a ++ b → IsLevel l x tokens
+        x ≡ expr_at (place_of first) (expr.Chain first links) → tokens ≡ a ++ b → IsLevel l x tokens
 
   pub data AreLinks : Level → List (Operator × Place × Expr) → Tokens → Type 0 where
     last_link : {l : Level} {links : List (Operator × Place × Expr)} {tokens : Tokens} (op : Operator) (at : Place) (sign : Token) (x : Expr) (a : Tokens) →
@@ -89,33 +87,33 @@ mutual
   pub data IsUnary : Expr → Tokens → Type 0 where
     plain_unary : {x : Expr} {tokens : Tokens} → IsPrimary x tokens → IsUnary x tokens
     negated_unary : {x : Expr} {tokens : Tokens} (at : Place) (operand : Expr) (a : Tokens) →
-        IsPrimary operand a → x ≡ expr_at at (e.Prefix operator.Neg operand) → tokens ≡ mark (codes "-") at ∷ a → IsUnary x tokens
+        IsPrimary operand a → x ≡ expr_at at (expr.Prefix operator.Neg operand) → tokens ≡ mark (codes "-") at ∷ a → IsUnary x tokens
     inverted_unary : {x : Expr} {tokens : Tokens} (at : Place) (operand : Expr) (a : Tokens) →
-        IsPrimary operand a → x ≡ expr_at at (e.Prefix operator.Not operand) → tokens ≡ mark (codes "!") at ∷ a → IsUnary x tokens
+        IsPrimary operand a → x ≡ expr_at at (expr.Prefix operator.Not operand) → tokens ≡ mark (codes "!") at ∷ a → IsUnary x tokens
 
   pub data IsPrimary : Expr → Tokens → Type 0 where
-    numeral_primary : {x : Expr} {tokens : Tokens} (at : Place) (value : ℤ) → x ≡ expr_at at (e.Int value) → tokens ≡ number value at ∷ [] → IsPrimary x tokens
-    truth_primary : {x : Expr} {tokens : Tokens} (at : Place) → x ≡ expr_at at (e.Bool true) → tokens ≡ keyword (codes "true") at ∷ [] → IsPrimary x tokens
-    falsehood_primary : {x : Expr} {tokens : Tokens} (at : Place) → x ≡ expr_at at (e.Bool false) → tokens ≡ keyword (codes "false") at ∷ [] → IsPrimary x tokens
+    numeral_primary : {x : Expr} {tokens : Tokens} (at : Place) (value : ℤ) → x ≡ expr_at at (expr.Int value) → tokens ≡ number value at ∷ [] → IsPrimary x tokens
+    truth_primary : {x : Expr} {tokens : Tokens} (at : Place) → x ≡ expr_at at (expr.Bool true) → tokens ≡ keyword (codes "true") at ∷ [] → IsPrimary x tokens
+    falsehood_primary : {x : Expr} {tokens : Tokens} (at : Place) → x ≡ expr_at at (expr.Bool false) → tokens ≡ keyword (codes "false") at ∷ [] → IsPrimary x tokens
     path_primary : {x : Expr} {tokens : Tokens} (root : Name) (steps : List Step) (a : Tokens) →
-        AreSteps steps a → x ≡ expr_at root.place (e.Path (path_of root steps)) → tokens ≡ word root ∷ a → IsPrimary x tokens
-    call_primary : {x : Expr} {tokens : Tokens} (at : Place) (c : Call) → IsCall at c tokens → x ≡ expr_at at (e.Call c) → IsPrimary x tokens
+        AreSteps steps a → x ≡ expr_at root.place (expr.Path (path_of root steps)) → tokens ≡ word root ∷ a → IsPrimary x tokens
+    call_primary : {x : Expr} {tokens : Tokens} (at : Place) (c : Call) → IsCall at c tokens → x ≡ expr_at at (expr.Call c) → IsPrimary x tokens
     group_primary : {x : Expr} {tokens : Tokens} (left right : Place) (a : Tokens) →
         IsLevel Ors x a → tokens ≡ mark (codes "(") left ∷ (a ++ mark (codes ")") right ∷ []) → IsPrimary x tokens
     await_primary : {x : Expr} {tokens : Tokens} (at : Place) (name : Name) →
-        x ≡ expr_at at (e.Await name) → tokens ≡ keyword (codes "await") at ∷ word name ∷ [] → IsPrimary x tokens
+        x ≡ expr_at at (expr.Await name) → tokens ≡ keyword (codes "await") at ∷ word name ∷ [] → IsPrimary x tokens
     array_primary : {x : Expr} {tokens : Tokens} (left right : Place) (elements : List Expr) (a : Tokens) →
-        AreElements elements a → x ≡ expr_at left (e.ArrayLit elements) →
+        AreElements elements a → x ≡ expr_at left (expr.ArrayLit elements) →
         tokens ≡ mark (codes "[") left ∷ (a ++ mark (codes "]") right ∷ []) → IsPrimary x tokens
     filled_primary : {x : Expr} {tokens : Tokens} (at left comma right : Place) (len value : Expr) (a b : Tokens) →
-        IsLevel Ors len a → IsLevel Ors value b → x ≡ expr_at at (e.Filled len value) →
+        IsLevel Ors len a → IsLevel Ors value b → x ≡ expr_at at (expr.Filled len value) →
         tokens ≡ keyword (codes "filled") at ∷ mark (codes "(") left ∷ (a ++ mark (codes ",") comma ∷ (b ++ mark (codes ")") right ∷ [])) → IsPrimary x tokens
     count_primary : {x : Expr} {tokens : Tokens} (at left right : Place) (root : Name) (steps : List Step) (a : Tokens) →
-        AreSteps steps a → x ≡ expr_at at (e.Count (path_of root steps)) →
+        AreSteps steps a → x ≡ expr_at at (expr.Count (path_of root steps)) →
         tokens ≡ keyword (codes "count") at ∷ mark (codes "(") left ∷ word root ∷ (a ++ mark (codes ")") right ∷ []) → IsPrimary x tokens
     lambda_primary : {x : Expr} {tokens : Tokens} (at o1 c1 o2 c2 : Place) (captures : List Name) (params : List Param) (result : Option Ty) (body : Block) (a b c d : Tokens) →
         AreNames captures a → AreParams params b → IsReturn result c → IsBlock body d →
-        x ≡ expr_at at (e.Lambda captures params result body) →
+        x ≡ expr_at at (expr.Lambda captures params result body) →
         tokens ≡ keyword (codes "fun") at ∷ mark (codes "[") o1 ∷ (a ++ mark (codes "]") c1 ∷ mark (codes "(") o2 ∷ (b ++ mark (codes ")") c2 ∷ (c ++ d))) → IsPrimary x tokens
 
   pub data AreElements : List Expr → Tokens → Type 0 where
@@ -165,43 +163,43 @@ mutual
     more_stmts : {stmts : List Stmt} {tokens : Tokens} (x : Stmt) (rest : List Stmt) (a m b : Tokens) →
         IsStmt x a → IsOptionalSemicolon m → AreStmts rest b → stmts ≡ x ∷ rest → tokens ≡ a ++ (m ++ b) → AreStmts stmts tokens
     bare_return_stmts : {stmts : List Stmt} {tokens : Tokens} (at semicolon : Place) (rest : List Stmt) (b : Tokens) →
-        AreStmts rest b → stmts ≡ stmt_at at (s.Return None) ∷ rest →
+        AreStmts rest b → stmts ≡ stmt_at at (stmt.Return None) ∷ rest →
         tokens ≡ keyword (codes "return") at ∷ mark (codes ";") semicolon ∷ b → AreStmts stmts tokens
     last_return_stmts : {stmts : List Stmt} {tokens : Tokens} (at : Place) →
-        stmts ≡ stmt_at at (s.Return None) ∷ [] → tokens ≡ keyword (codes "return") at ∷ [] → AreStmts stmts tokens
+        stmts ≡ stmt_at at (stmt.Return None) ∷ [] → tokens ≡ keyword (codes "return") at ∷ [] → AreStmts stmts tokens
 
   -- a statement other than a `return` without expression
   pub data IsStmt : Stmt → Tokens → Type 0 where
     var_stmt : {x : Stmt} {tokens : Tokens} (at colon : Place) (name : Name) (t : Ty) (a : Tokens) →
-        IsType t a → x ≡ stmt_at at (s.Var name t None) →
+        IsType t a → x ≡ stmt_at at (stmt.Var name t None) →
         tokens ≡ keyword (codes "var") at ∷ word name ∷ mark (codes ":") colon ∷ a → IsStmt x tokens
     var_with_stmt : {x : Stmt} {tokens : Tokens} (at colon equals : Place) (name : Name) (t : Ty) (v : Expr) (a b : Tokens) →
-        IsType t a → IsLevel Ors v b → x ≡ stmt_at at (s.Var name t (Some v)) →
+        IsType t a → IsLevel Ors v b → x ≡ stmt_at at (stmt.Var name t (Some v)) →
         tokens ≡ keyword (codes "var") at ∷ word name ∷ mark (codes ":") colon ∷ (a ++ mark (codes "=") equals ∷ b) → IsStmt x tokens
     let_stmt : {x : Stmt} {tokens : Tokens} (at colon equals : Place) (name : Name) (t : Ty) (v : Expr) (a b : Tokens) →
-        IsType t a → IsLevel Ors v b → x ≡ stmt_at at (s.Let name t v) →
+        IsType t a → IsLevel Ors v b → x ≡ stmt_at at (stmt.Let name t v) →
         tokens ≡ keyword (codes "let") at ∷ word name ∷ mark (codes ":") colon ∷ (a ++ mark (codes "=") equals ∷ b) → IsStmt x tokens
     inout_stmt : {x : Stmt} {tokens : Tokens} (at colon equals ref : Place) (name : Name) (t : Ty) (root : Name) (steps : List Step) (a b : Tokens) →
-        IsType t a → AreSteps steps b → x ≡ stmt_at at (s.Inout name t (path_of root steps)) →
+        IsType t a → AreSteps steps b → x ≡ stmt_at at (stmt.Inout name t (path_of root steps)) →
         tokens ≡ keyword (codes "inout") at ∷ word name ∷ mark (codes ":") colon ∷ (a ++ mark (codes "=") equals ∷ mark (codes "&") ref ∷ word root ∷ b) → IsStmt x tokens
     assign_stmt : {x : Stmt} {tokens : Tokens} (at equals : Place) (root : Name) (steps : List Step) (v : Expr) (a b : Tokens) →
-        AreSteps steps a → IsLevel Ors v b → x ≡ stmt_at at (s.Assign (path_of root steps) v) →
+        AreSteps steps a → IsLevel Ors v b → x ≡ stmt_at at (stmt.Assign (path_of root steps) v) →
         tokens ≡ mark (codes "&") at ∷ word root ∷ (a ++ mark (codes "=") equals ∷ b) → IsStmt x tokens
     if_stmt : {x : Stmt} {tokens : Tokens} (at : Place) (branches : List Branch) (otherwise : Option Block) →
-        AreBranches at branches otherwise tokens → x ≡ stmt_at at (s.If branches otherwise) → IsStmt x tokens
+        AreBranches at branches otherwise tokens → x ≡ stmt_at at (stmt.If branches otherwise) → IsStmt x tokens
     while_stmt : {x : Stmt} {tokens : Tokens} (at : Place) (test : Expr) (body : Block) (a b : Tokens) →
-        IsLevel Ors test a → IsBlock body b → x ≡ stmt_at at (s.While test body) → tokens ≡ keyword (codes "while") at ∷ (a ++ b) → IsStmt x tokens
+        IsLevel Ors test a → IsBlock body b → x ≡ stmt_at at (stmt.While test body) → tokens ≡ keyword (codes "while") at ∷ (a ++ b) → IsStmt x tokens
     return_stmt : {x : Stmt} {tokens : Tokens} (at : Place) (v : Expr) (a : Tokens) →
-        IsLevel Ors v a → x ≡ stmt_at at (s.Return (Some v)) → tokens ≡ keyword (codes "return") at ∷ a → IsStmt x tokens
+        IsLevel Ors v a → x ≡ stmt_at at (stmt.Return (Some v)) → tokens ≡ keyword (codes "return") at ∷ a → IsStmt x tokens
     print_stmt : {x : Stmt} {tokens : Tokens} (at left right : Place) (v : Expr) (a : Tokens) →
-        IsLevel Ors v a → x ≡ stmt_at at (s.Print v) →
+        IsLevel Ors v a → x ≡ stmt_at at (stmt.Print v) →
         tokens ≡ keyword (codes "print") at ∷ mark (codes "(") left ∷ (a ++ mark (codes ")") right ∷ []) → IsStmt x tokens
     task_stmt : {x : Stmt} {tokens : Tokens} (at equals spawn left right : Place) (name : Name) (result : Option Ty) (budget : Expr) (c : Call) (first : Place) (a b d : Tokens) →
-        IsTaskType result a → IsLevel Ors budget b → IsCall first c d → x ≡ stmt_at at (s.Task name result spawn budget c) →
+        IsTaskType result a → IsLevel Ors budget b → IsCall first c d → x ≡ stmt_at at (stmt.Task name result spawn budget c) →
         tokens ≡ keyword (codes "task") at ∷ word name ∷ (a ++ mark (codes "=") equals ∷ keyword (codes "spawn") spawn ∷ mark (codes "(") left ∷ (b ++ mark (codes ")") right ∷ d)) → IsStmt x tokens
-    await_stmt : {x : Stmt} {tokens : Tokens} (at : Place) (name : Name) → x ≡ stmt_at at (s.Await name) → tokens ≡ keyword (codes "await") at ∷ word name ∷ [] → IsStmt x tokens
-    call_stmt : {x : Stmt} {tokens : Tokens} (at : Place) (c : Call) → IsCall at c tokens → x ≡ stmt_at at (s.Call c) → IsStmt x tokens
-    block_stmt : {x : Stmt} {tokens : Tokens} (left : Place) (b : Block) (a : Tokens) → IsBlock b tokens → tokens ≡ mark (codes "{") left ∷ a → x ≡ stmt_at left (s.Block b) → IsStmt x tokens
+    await_stmt : {x : Stmt} {tokens : Tokens} (at : Place) (name : Name) → x ≡ stmt_at at (stmt.Await name) → tokens ≡ keyword (codes "await") at ∷ word name ∷ [] → IsStmt x tokens
+    call_stmt : {x : Stmt} {tokens : Tokens} (at : Place) (c : Call) → IsCall at c tokens → x ≡ stmt_at at (stmt.Call c) → IsStmt x tokens
+    block_stmt : {x : Stmt} {tokens : Tokens} (left : Place) (b : Block) (a : Tokens) → IsBlock b tokens → tokens ≡ mark (codes "{") left ∷ a → x ≡ stmt_at left (stmt.Block b) → IsStmt x tokens
 
   -- 'if' expr block ('else' 'if' expr block)* ('else' block)?
   pub data AreBranches : Place → List Branch → Option Block → Tokens → Type 0 where

@@ -4,7 +4,6 @@ use Rattle.std.specs.Str.{bytes_eq}
 use Rattle.hv_tree.specs.declared.token.Token.{Token}
 use Rattle.hv_tree.specs.declared.token.TokenKind.{TokenKind}
 use Rattle.hv_tree.specs.declared.token.TokenKind.TheVariants as kind
-use Rattle.hv_tree.specs.declared.ast.Tree.{Tree}
 use Rattle.hv_tree.specs.Tokens.{Tokens}
 use Rattle.hv_tree.specs.Grammar.{Spells}
 
