@@ -1,5 +1,5 @@
 -- Where a list of tokens leaves a grammar, and where it opens too many brackets.
-use Rattle.std.specs.Prelude.{◌≡◌, ℕ, ◌+◌, ◌-◌, ◌<◌, ◌≤◌, Bool, ◌||◌, true, false, if◌then◌else◌, List, [], ◌∷◌, ◌++◌, length, codes}
+use Rattle.std.specs.Prelude.{◌≡◌, ℕ, ◌+◌, ◌<◌, ◌≤◌, Bool, ◌||◌, true, false, List, [], ◌∷◌, ◌++◌, length, count_by, codes}
 use Rattle.std.specs.Str.{bytes_eq}
 use Rattle.hv_tree.specs.declared.token.Token.{Token}
 use Rattle.hv_tree.specs.declared.token.TokenKind.{TokenKind}
@@ -24,24 +24,19 @@ is_opening k = is_mark (codes "(") k || is_mark (codes "[") k || is_mark (codes 
 abbrev pub is_closing : Token → Bool
 is_closing k = is_mark (codes ")") k || is_mark (codes "]") k || is_mark (codes "}") k
 
--- how many brackets are open behind these tokens, where so many are open before them
-abbrev pub open_behind : ℕ → Tokens → ℕ
-open_behind n [] = n
-open_behind n (k ∷ ts) = open_behind (if is_opening k then n + 1 else (if is_closing k then n - 1 else n)) ts
-
 -- how many brackets may be open
 abbrev pub most_open : ℕ
 most_open = 100
 
--- The rest begins with an opening bracket that makes one too many, and no bracket before it does.
+-- Of the brackets that were opened those are open that weren't closed. The rest begins with an opening bracket that makes one too many, and no bracket before it does.
 pub record TooManyAt (most : ℕ) (tokens before rest : Tokens) : Type 0 where
   pub bracket : Token
   pub after : Tokens
   pub begins : rest ≡ bracket ∷ after
   pub is : tokens ≡ before ++ rest
   pub opening : is_opening bracket ≡ true
-  pub full : most ≤ open_behind 0 before
-  pub first : (x y : Tokens) (k : Token) → before ≡ x ++ k ∷ y → is_opening k ≡ true → open_behind 0 x < most
+  pub full : most + count_by is_closing before ≤ count_by is_opening before
+  pub first : (x y : Tokens) (k : Token) → before ≡ x ++ k ∷ y → is_opening k ≡ true → count_by is_opening x < most + count_by is_closing x
 
 -- ---- leaving a grammar
 
@@ -63,7 +58,7 @@ module _ {A : Type 0} (R : A → Tokens → Type 0) where
 
 -- ---- of programs
 
--- P1 is violated at the first token of the rest, or at the end where the rest is empty
+-- P1 is violated at the first token of the rest, or at the end where the rest is empty. Where an L rule stopped the tokens, the end is no token.
 abbrev pub IsP1 : (tokens before rest : Tokens) → Type 0
 IsP1 tokens before rest = LeavesAt Spells tokens before rest
 
