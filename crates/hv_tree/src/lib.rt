@@ -2,9 +2,12 @@
 #![tactic(auto)]
 
 mod ast;
+pub mod builders;
 mod place;
 mod refusal;
 mod task;
+#[cfg(test)]
+mod tests;
 mod text;
 mod token;
 mod types;
