@@ -1,15 +1,15 @@
 // The size of a value.
 
-ghost use Rattle.std.specs.Prelude.{◌≡◌, ◌≤◌, ◌<◌, ◌-◌, Some, None, if◌then◌else◌, nat_le};
+ghost use Rattle.std.specs.Prelude.{◌≡◌, ◌≤◌, ◌<◌, MatchOption};
 ghost use Rattle.hv_value.specs.ValueTree.{tree_of, trees_of};
 ghost use Rattle.hv_value.specs.Sizes as spec;
 
 use crate::value::Value;
 
-/// The size, unless it exceeds the limit.
+/// The size, unless it is above the limit. No more nodes are looked at than the limit and one.
 #[cycle(size)]
 pub fn size(v: &Value, limit: u64) -> Option<u64>
-    ensures { result ≡ (if nat_le (spec.size (tree_of v.now)) limit then Some (spec.size (tree_of v.now)) else None) }
+    ensures { MatchOption result (limit < spec.size (tree_of v.now)) (λ n. (n ≡ spec.size (tree_of v.now)) × (n ≤ limit)) }
 {
     if limit == 0 {
         return None;
@@ -23,10 +23,10 @@ pub fn size(v: &Value, limit: u64) -> Option<u64>
     }
 }
 
-// The sizes of several values together, unless they exceed the limit.
+// The sizes of several values together, unless they are above the limit.
 #[cycle(size)]
 fn sizes(parts: &[Value], limit: u64) -> Option<u64>
-    ensures { result ≡ (if nat_le (spec.sizes (trees_of parts.now)) limit then Some (spec.sizes (trees_of parts.now)) else None) }
+    ensures { MatchOption result (limit < spec.sizes (trees_of parts.now)) (λ n. (n ≡ spec.sizes (trees_of parts.now)) × (n ≤ limit)) }
 {
     let mut total = 0u64;
     for part in parts {

@@ -1,0 +1,4 @@
+pub mod PartLaws
+pub mod PlaceLaws
+pub mod StepLemmas
+pub mod VariantLemmas
