@@ -1,6 +1,10 @@
 pub mod EqualityLaws
+pub mod HoleLaws
 pub mod PartLaws
 pub mod PlaceLaws
+pub mod ShapeLaws
+pub mod SizeLaws
 pub mod StepLemmas
 pub mod ValueLaws
 pub mod VariantLemmas
+pub mod WalkLaws

@@ -55,9 +55,12 @@ if_whole t = if is_whole t then Some t else None
 abbrev pub read : ValueTree → Path → Option ValueTree
 read t p = option_and_then if_whole (get t p)
 
+abbrev pub leaving : ValueTree → Path → ValueTree → ValueTree × ValueTree
+leaving t p u = (u, clear t p)
+
 -- that part, and the tree without it
 abbrev pub take_out : ValueTree → Path → Option (ValueTree × ValueTree)
-take_out t p = option_map (λ u. (u, clear t p)) (read t p)
+take_out t p = option_map (leaving t p) (read t p)
 
 -- ---- shapes
 
