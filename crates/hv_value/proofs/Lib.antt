@@ -1,5 +1,6 @@
 pub mod EqualityLaws
 pub mod HoleLaws
+pub mod OperatorLaws
 pub mod PartLaws
 pub mod PlaceLaws
 pub mod ShapeLaws

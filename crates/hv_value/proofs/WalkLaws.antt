@@ -1,9 +1,10 @@
 -- Where a way with evaluated indices leads.
-use Rattle.std.proofs.Common.{◌≡◌, ◌≢◌, ◌<◌, ◌≤◌, ℕ, zero, suc, ℤ, pos, negsuc, Bool, true, false, ◌==◌, true≢false, List, [], ◌∷◌, ◌++◌, Option, Some, None, option_map, option_and_then, ◌⊎◌, inl, inr, arith, refl, sym, ap, ◌∙◌, subst}
+use Rattle.std.proofs.Common.{◌≡◌, ◌≢◌, ◌<◌, ◌≤◌, ℕ, zero, suc, ℤ, pos, negsuc, Bool, true, false, ◌==◌, if◌then◌else◌, true≢false, List, [], ◌∷◌, ◌++◌, Option, Some, None, option_map, option_and_then, ◌⊎◌, inl, inr, arith, refl, sym, ap, ◌∙◌, subst}
+use Rattle.std.proofs.lemmas.Bool.Decides.{eqb_tells}
 use Rattle.hv_value.specs.declared.value.PathStep.{PathStep}
 use Rattle.hv_value.specs.declared.value.PathStep.TheVariants.{Field, At}
 use Rattle.hv_value.specs.ValueTree.{ValueTree, Hole, Number, Truth, Fields, Elements, Closure, Parts, Nil, Cons}
-use Rattle.hv_value.specs.Places.{Path, nth, part, change_part, get, put}
+use Rattle.hv_value.specs.Places.{Path, nth, change_nth, part, change_part, get, put}
 use Rattle.hv_value.specs.Operators.{count}
 use Rattle.hv_value.specs.Walk.{Link, ToField, ToIndex, Reached, Reaches, Outside, Lost, after_step, onward, step_on, walk, leads, parts_from}
 use Rattle.hv_value.proofs.PartLaws.{part-same, part-other}
@@ -184,3 +185,66 @@ stops_walk {A = A} (l ∷ ls) t a h = go l t (stops_walk ls) h
 same_on : {A : Type 0} (f g : ValueTree → Reached A) (h : ValueTree → ValueTree) (s : PathStep) (other : Reached A) (o : Option ValueTree) → ((c : ValueTree) → f (h c) ≡ g c) → onward f s other (option_map h o) ≡ onward g s other o
 same_on f g h s other None ih = refl
 same_on f g h s other (Some c) ih = ap (after_step s) (ih c)
+
+eqb-same : (j k : ℕ) → (j == k) ≡ true → j ≡ k
+eqb-same j k h = go (eqb_tells j k)
+  where
+    go : ((j == k) ≡ true) × (j ≡ k) ⊎ ((j == k) ≡ false) × (j ≢ k) → j ≡ k
+    go (inl e) = e.1
+    go (inr e) = absurd (true≢false (sym h ∙ e.0))
+
+-- what a change of one part is to a way: it doesn't go there, or sees no difference there
+abbrev Unseen : {A : Type 0} → (ValueTree → Reached A) → PathStep → Link A → (ValueTree → ValueTree) → Type 0
+Unseen go s l f = (leads s l ≡ false) ⊎ ((leads s l ≡ true) × ((c : ValueTree) → go (f c) ≡ go c))
+
+step_unseen : {A : Type 0} (go : ValueTree → Reached A) (s : PathStep) (l : Link A) (t : ValueTree) (f : ValueTree → ValueTree) → Unseen go s l f → step_on go l (change_part t s f) ≡ step_on go l t
+step_unseen go (Field j) (ToField k) (Fields ts) f (inl d) = ap (onward go (Field k) Lost) (part-other (Fields ts) (Field j) (Field k) f d)
+step_unseen go (Field j) (ToField k) (Fields ts) f (inr e) =
+    subst (λ i. step_on go (ToField i) (Fields (change_nth ts j f)) ≡ step_on go (ToField i) (Fields ts)) (eqb-same j k e.0)
+    (ap (onward go (Field j) Lost) (part-same (Fields ts) (Field j) f) ∙ same_on go go f (Field j) Lost (nth ts j) e.1)
+step_unseen go (At j) (ToIndex (pos k) a) (Elements ts) f (inl d) = ap (onward go (At k) (Outside a)) (part-other (Elements ts) (At j) (At k) f d)
+step_unseen go (At j) (ToIndex (pos k) a) (Elements ts) f (inr e) =
+    subst (λ i. step_on go (ToIndex (pos i) a) (Elements (change_nth ts j f)) ≡ step_on go (ToIndex (pos i) a) (Elements ts)) (eqb-same j k e.0)
+    (ap (onward go (At j) (Outside a)) (part-same (Elements ts) (At j) f) ∙ same_on go go f (At j) (Outside a) (nth ts j) e.1)
+step_unseen go (Field j) (ToIndex (pos k) a) (Fields ts) f h = refl
+step_unseen go (Field j) (ToIndex (negsuc k) a) (Fields ts) f h = refl
+step_unseen go (At j) (ToField k) (Elements ts) f h = refl
+step_unseen go (At j) (ToIndex (negsuc k) a) (Elements ts) f h = refl
+step_unseen go (Field j) l (Elements ts) f h = refl
+step_unseen go (At j) l (Fields ts) f h = refl
+step_unseen go s l Hole f h = refl
+step_unseen go s l (Number z) f h = refl
+step_unseen go s l (Truth b) f h = refl
+step_unseen go s l (Closure body ts) f h = refl
+
+-- a write from which the way parts changes nothing of where it leads
+pub walk-put_apart : {A : Type 0} (p : Path) (ls : List (Link A)) (t v : ValueTree) → parts_from p ls ≡ true → walk ls (put t p v) ≡ walk ls t
+walk-put_apart [] ls t v h = absurd (true≢false (sym h))
+walk-put_apart (s ∷ p) [] t v h = absurd (true≢false (sym h))
+walk-put_apart {A = A} (s ∷ p) (l ∷ ls) t v h = go (leads s l) refl h (walk-put_apart p ls)
+  where
+    go : (b : Bool) → leads s l ≡ b → (if b then parts_from p ls else true) ≡ true → ((t v : ValueTree) → parts_from p ls ≡ true → walk ls (put t p v) ≡ walk ls t) → walk (l ∷ ls) (put t (s ∷ p) v) ≡ walk (l ∷ ls) t
+    go true e k ih = step_unseen (walk ls) s l t (λ c. put c p v) (inr (e, λ c. ih c v k))
+    go false e k ih = step_unseen (walk ls) s l t (λ c. put c p v) (inl e)
+
+-- a write inside the place to which a way leads is seen from there
+pub walk-put_inside : {A : Type 0} (ls : List (Link A)) (t : ValueTree) (p q : Path) (u v : ValueTree) → walk ls t ≡ Reaches p u → walk ls (put t (p ++ q) v) ≡ Reaches p (put u q v)
+walk-put_inside {A = A} [] t p q u v h =
+    let path : [] ≡ p = grind (arith, h) in
+    let place : t ≡ u = grind (arith, h) in
+    subst (λ x. ◌≡◌ {A = Reached A} (Reaches [] (put t (x ++ q) v)) (Reaches x (put u q v))) path (ap (λ y. Reaches [] (put y q v)) place)
+walk-put_inside {A = A} (l ∷ ls) t p q u v h = go l t (λ t p. walk-put_inside ls t p q u v) h
+  where
+    onto : (l : Link A) (t : ValueTree) (s : PathStep) (other : Reached A) → ((f : ValueTree → ValueTree) → step_on (walk ls) l (change_part t s f) ≡ onward (walk ls) s other (option_map f (part t s))) → ((x : Path) → other ≢ Reaches x u) → ((t : ValueTree) (p : Path) → walk ls t ≡ Reaches p u → walk ls (put t (p ++ q) v) ≡ Reaches p (put u q v)) → onward (walk ls) s other (part t s) ≡ Reaches p u → step_on (walk ls) l (put t (p ++ q) v) ≡ Reaches p (put u q v)
+    onto l t s other look never ih k =
+        let found : GoesOn (walk ls) s (part t s) p u = goes_on (walk ls) s other (part t s) p u never k in
+        let f : ValueTree → ValueTree = λ c. put c (found.rest ++ q) v in
+        subst (λ x. ◌≡◌ {A = Reached A} (step_on (walk ls) l (put t (x ++ q) v)) (Reaches x (put u q v))) (sym found.joined)
+        (look f
+        ∙ ap (λ o. onward (walk ls) s other (option_map f o)) found.there
+        ∙ ap (after_step s) (ih found.between found.rest found.on))
+    go : (l : Link A) (t : ValueTree) → ((t : ValueTree) (p : Path) → walk ls t ≡ Reaches p u → walk ls (put t (p ++ q) v) ≡ Reaches p (put u q v)) → step_on (walk ls) l t ≡ Reaches p u → step_on (walk ls) l (put t (p ++ q) v) ≡ Reaches p (put u q v)
+    go (ToField k) (Fields ts) ih h = onto (ToField k) (Fields ts) (Field k) Lost (λ f. ap (onward (walk ls) (Field k) Lost) (part-same (Fields ts) (Field k) f)) (λ x e. cc) ih h
+    go (ToIndex (pos k) a) (Elements ts) ih h = onto (ToIndex (pos k) a) (Elements ts) (At k) (Outside a) (λ f. ap (onward (walk ls) (At k) (Outside a)) (part-same (Elements ts) (At k) f)) (λ x e. cc) ih h
+    go (ToIndex (negsuc k) a) (Elements ts) ih h = cc
+    go _ _ ih h = cc
