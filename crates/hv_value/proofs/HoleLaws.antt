@@ -151,6 +151,7 @@ taken p t u r h = found (get t p) refl h
     whole : (c : ValueTree) → (b : Bool) → is_whole c ≡ b → get t p ≡ Some c → option_map (leaving t p) (if b then Some c else None) ≡ Some (u, r) → (get t p ≡ Some u) × (is_whole u ≡ true) × (r ≡ clear t p)
     whole c true b e k = let pair : leaving t p c ≡ (u, r) = grind (arith, k) in (e ∙ ap (λ x. Some x.0) pair, ap (λ x. is_whole x.0) (sym pair) ∙ b, ap (λ x. x.1) (sym pair))
     whole c false b e k = cc
+
     found : (o : Option ValueTree) → get t p ≡ o → option_map (leaving t p) (option_and_then if_whole o) ≡ Some (u, r) → (get t p ≡ Some u) × (is_whole u ≡ true) × (r ≡ clear t p)
     found None e k = cc
     found (Some c) e k = whole c (is_whole c) refl e k

@@ -63,6 +63,7 @@ get_walk {A = A} (l ∷ ls) t p u h = go l t (get_walk ls) h
     led t s other never ih h =
         let found : GoesOn (walk ls) s (part t s) p u = goes_on (walk ls) s other (part t s) p u never h in
         ap (get t) found.joined ∙ ap (option_and_then (λ c. get c found.rest)) found.there ∙ ih found.between found.rest u found.on
+
     go : (l : Link A) (t : ValueTree) → ((t : ValueTree) (p : Path) (u : ValueTree) → walk ls t ≡ Reaches p u → get t p ≡ Some u) → step_on (walk ls) l t ≡ Reaches p u → get t p ≡ Some u
     go (ToField k) (Fields ts) ih h = led (Fields ts) (Field k) Lost (λ q e. cc) ih h
     go (ToIndex (pos k) a) (Elements ts) ih h = led (Elements ts) (At k) (Outside a) (λ q e. cc) ih h
@@ -168,12 +169,15 @@ stops_walk {A = A} (l ∷ ls) t a h = go l t (stops_walk ls) h
   where
     here : (z : ℤ) (b : A) (ts : Parts) → IsOutOf ts z → b ≡ a → StopsAt (ToIndex z b ∷ ls) (Elements ts) a
     here z b ts out e = record { front = []; index = z; back = ls; path = []; elements = ts; whole = ap (λ x. ToIndex z x ∷ ls) e; before = refl; out = out }
+
     field : (k : ℕ) (ts : Parts) (o : Option ValueTree) → nth ts k ≡ o → ((t : ValueTree) (a : A) → walk ls t ≡ Outside a → StopsAt ls t a) → onward (walk ls) (Field k) Lost o ≡ Outside a → StopsAt (ToField k ∷ ls) (Fields ts) a
     field k ts None e ih h = cc
     field k ts (Some c) e ih h = stops_later (ToField k) ls (Fields ts) c (Field k) a (λ qs. ap (onward (walk qs) (Field k) Lost) e) (ih c a (after_outside (Field k) (walk ls c) a h))
+
     element : (k : ℕ) (b : A) (ts : Parts) (o : Option ValueTree) → nth ts k ≡ o → ((t : ValueTree) (a : A) → walk ls t ≡ Outside a → StopsAt ls t a) → onward (walk ls) (At k) (Outside b) o ≡ Outside a → StopsAt (ToIndex (pos k) b ∷ ls) (Elements ts) a
     element k b ts None e ih h = let same : b ≡ a = grind (arith, h) in here (pos k) b ts (nth_past ts k e) same
     element k b ts (Some c) e ih h = stops_later (ToIndex (pos k) b) ls (Elements ts) c (At k) a (λ qs. ap (onward (walk qs) (At k) (Outside b)) e) (ih c a (after_outside (At k) (walk ls c) a h))
+
     go : (l : Link A) (t : ValueTree) → ((t : ValueTree) (a : A) → walk ls t ≡ Outside a → StopsAt ls t a) → step_on (walk ls) l t ≡ Outside a → StopsAt (l ∷ ls) t a
     go (ToField k) (Fields ts) ih h = field k ts (nth ts k) refl ih h
     go (ToIndex (pos k) b) (Elements ts) ih h = element k b ts (nth ts k) refl ih h
@@ -243,6 +247,7 @@ walk-put_inside {A = A} (l ∷ ls) t p q u v h = go l t (λ t p. walk-put_inside
         (look f
         ∙ ap (λ o. onward (walk ls) s other (option_map f o)) found.there
         ∙ ap (after_step s) (ih found.between found.rest found.on))
+
     go : (l : Link A) (t : ValueTree) → ((t : ValueTree) (p : Path) → walk ls t ≡ Reaches p u → walk ls (put t (p ++ q) v) ≡ Reaches p (put u q v)) → step_on (walk ls) l t ≡ Reaches p u → step_on (walk ls) l (put t (p ++ q) v) ≡ Reaches p (put u q v)
     go (ToField k) (Fields ts) ih h = onto (ToField k) (Fields ts) (Field k) Lost (λ f. ap (onward (walk ls) (Field k) Lost) (part-same (Fields ts) (Field k) f)) (λ x e. cc) ih h
     go (ToIndex (pos k) a) (Elements ts) ih h = onto (ToIndex (pos k) a) (Elements ts) (At k) (Outside a) (λ f. ap (onward (walk ls) (At k) (Outside a)) (part-same (Elements ts) (At k) f)) (λ x e. cc) ih h

@@ -6,6 +6,8 @@ mod copying;
 mod measure;
 mod place;
 mod show;
+#[cfg(test)]
+mod tests;
 mod value;
 
 pub use compare::{equal, has_function};
