@@ -1,10 +1,10 @@
 -- The test of equality, and which parts hold no function.
-use Rattle.std.proofs.Common.{◌≡◌, ◌≢◌, ◌↔◌, ℕ, zero, suc, ℤ, pos, negsuc, [], ◌∷◌, Bool, true, false, not, ◌==◌, ◌&&◌, ◌||◌, IsTrue, Option, Some, None, option_and_then, ◌⊎◌, inl, inr, arith, refl, sym, ap, ◌∙◌, true≢false}
+use Rattle.std.proofs.Common.{◌≡◌, ◌≢◌, ℕ, zero, suc, ℤ, pos, negsuc, List, [], ◌∷◌, length, Bool, true, false, ◌==◌, ◌&&◌, ◌||◌, Option, Some, None, option_and_then, ◌⊎◌, inl, inr, arith, refl, sym, ap, ◌∙◌, true≢false}
 use Rattle.std.proofs.lemmas.Bool.Decides.{eqb_tells}
 use Rattle.hv_value.specs.declared.value.Value.{Value}
 use Rattle.hv_value.specs.declared.value.PathStep.{PathStep}
 use Rattle.hv_value.specs.declared.value.PathStep.TheVariants.{Field, At}
-use Rattle.hv_value.specs.ValueTree.{ValueTree, Hole, Number, Truth, Fields, Elements, Closure, Parts, Nil, Cons, tree_of}
+use Rattle.hv_value.specs.ValueTree.{ValueTree, Hole, Number, Truth, Fields, Elements, Closure, Parts, Nil, Cons, tree_of, trees_of}
 use Rattle.hv_value.specs.Places.{Path, nth, part, get}
 use Rattle.hv_value.specs.Equality.{same_number, same_truth, same, all_same, has_function, some_function}
 use Rattle.hv_value.proofs.ValueLaws.{tree_of-injective}
@@ -116,3 +116,14 @@ no_function-get (s ∷ p) t u e h = go (no_function-get p) (part t s) refl e
     go : ((t u : ValueTree) → get t p ≡ Some u → has_function t ≡ false → has_function u ≡ false) → (o : Option ValueTree) → part t s ≡ o → option_and_then (λ c. get c p) o ≡ Some u → has_function u ≡ false
     go ih None i k = cc
     go ih (Some c) i k = ih c u k (no_function-part t s c i h)
+
+-- rows of different lengths differ
+pub all_same_lengths : (vs ws : List Value) → length vs ≢ length ws → all_same (trees_of vs) (trees_of ws) ≡ false
+all_same_lengths [] [] h = absurd (h refl)
+all_same_lengths [] (w ∷ ws) h = refl
+all_same_lengths (v ∷ vs) [] h = refl
+all_same_lengths (v ∷ vs) (w ∷ ws) h = rw (all_same_lengths vs ws (λ e. h (ap suc e))) (none (same (tree_of v) (tree_of w)))
+  where
+    none : (b : Bool) → (b && false) ≡ false
+    none true = refl
+    none false = refl

@@ -1,12 +1,12 @@
 -- Trees without holes, taking out and clearing.
-use Rattle.std.proofs.Common.{◌≡◌, ℕ, zero, suc, ◌+◌, Bool, true, false, ◌&&◌, if◌then◌else◌, true≢false, List, [], ◌∷◌, ◌++◌, map, Option, Some, None, option_map, option_and_then, arith, refl, sym, ap, ◌∙◌, subst}
+use Rattle.std.proofs.Common.{◌≡◌, ℕ, zero, suc, Bool, true, false, if◌then◌else◌, [], ◌∷◌, Option, Some, None, option_map, option_and_then, arith, refl, sym, ap, ◌∙◌}
 use Rattle.hv_value.specs.declared.value.PathStep.{PathStep}
 use Rattle.hv_value.specs.declared.value.PathStep.TheVariants.{Field, At}
 use Rattle.hv_value.specs.ValueTree.{ValueTree, Hole, Number, Truth, Fields, Elements, Closure, Parts, Nil, Cons}
 use Rattle.hv_value.specs.Places.{Path, nth, change_nth, part, change_part, get, put, apart}
-use Rattle.hv_value.specs.Holes.{is_whole, all_whole, fields_or_hole, emptied, all_emptied, put_if_there, clear, if_whole, leaving, read, take_out, leaves, fields_leaves, rest_leaves}
+use Rattle.hv_value.specs.Holes.{is_whole, all_whole, fields_or_hole, emptied, all_emptied, put_if_there, clear, if_whole, leaving, take_out}
 use Rattle.hv_value.proofs.EqualityLaws.{and_left, and_right}
-use Rattle.hv_value.proofs.PlaceLaws.{get-put, get-put_inside, get-put_apart, put-swap, put-over, put-twice, put-get, put-append, apart-sym}
+use Rattle.hv_value.proofs.PlaceLaws.{get-put, get-put_apart, put-swap, put-twice, put-get, apart-sym}
 
 -- ---- trees without holes
 

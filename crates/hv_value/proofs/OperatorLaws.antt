@@ -1,10 +1,8 @@
 -- What the operators give, at the edges of the range too.
-use Rattle.std.proofs.Common.{◌≡◌, ◌≢◌, ◌<◌, ◌≤◌, ◌<ℤ◌, ◌≤ℤ◌, ◌+◌, ◌-◌, ◌*◌, ◌^◌, ◌%◌, ℕ, zero, suc, ℤ, pos, negsuc, ◌+ℤ◌, ◌*ℤ◌, neg_ℤ, Bool, true, false, if◌then◌else◌, nat_lt, nat_le, ltb, leb, Option, Some, None, arith, refl, sym, ap, ◌∙◌, ◌⊎◌, inl, inr}
-use Rattle.std.specs.Prelude.{int_div, int_rem, unsigned_abs}
-use Rattle.std.proofs.lemmas.Int.{quot-rem, rem_below}
-use Rattle.hv_value.specs.ValueTree.{ValueTree, Number, Elements, Parts, Nil, Cons}
+use Rattle.std.proofs.Common.{◌≡◌, ◌<◌, ◌-◌, ◌^◌, ℕ, zero, suc, pos, negsuc, Some, arith, refl, ap}
+use Rattle.hv_value.specs.ValueTree.{ValueTree, Number}
 use Rattle.hv_value.specs.Places.{nth}
-use Rattle.hv_value.specs.Operators.{Given, Gives, Overflow, DivZero, BadLength, TooLong, in_range, number, add, subtract, multiply, divide, remainder, negate, copies, filled, count}
+use Rattle.hv_value.specs.Operators.{Gives, Overflow, DivZero, add, divide, remainder, negate, copies, count}
 
 -- ---- the definitions at numbers
 

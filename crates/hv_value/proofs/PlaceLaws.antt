@@ -1,8 +1,8 @@
 -- Reading and writing at paths. `put` leaves the tree as it is where the path doesn't fit, so only laws that say so have a premise.
-use Rattle.std.proofs.Common.{◌≡◌, ◌≢◌, ◌+◌, ℕ, suc, true, false, List, [], ◌∷◌, ◌++◌, append-nil, Option, Some, None, arith, option_map, option_and_then, ◌⊎◌, inl, inr, refl, sym, ap, ◌∙◌, subst, true≢false}
+use Rattle.std.proofs.Common.{◌≡◌, ℕ, suc, true, false, [], ◌∷◌, ◌++◌, append-nil, Option, Some, None, arith, option_map, option_and_then, ◌⊎◌, inl, inr, refl, sym, ap, ◌∙◌, subst, true≢false}
 use Rattle.hv_value.specs.declared.value.PathStep.{PathStep}
 use Rattle.hv_value.specs.ValueTree.{ValueTree}
-use Rattle.hv_value.specs.Places.{Path, part, change_part, get, put, same_step, apart, one_more, reach}
+use Rattle.hv_value.specs.Places.{Path, part, get, put, same_step, apart, one_more, reach}
 use Rattle.hv_value.proofs.PartLaws.{step_tells, same_step-refl, same_step-sym, part-same, part-other, change-ext, change-twice, change-swap, change-agree, change-kept}
 
 through : (o : Option ValueTree) (f : ValueTree → ValueTree) (g h : ValueTree → Option ValueTree) → ((c : ValueTree) → g (f c) ≡ h c) → option_and_then g (option_map f o) ≡ option_and_then h o

@@ -1,5 +1,5 @@
 -- The shape of a tree is the tree emptied.
-use Rattle.std.proofs.Common.{◌≡◌, ℕ, zero, suc, ◌+◌, true, false, List, [], ◌∷◌, map, Option, Some, None, option_map, option_and_then, arith, refl, sym, ap, ◌∙◌, subst}
+use Rattle.std.proofs.Common.{◌≡◌, ℕ, zero, suc, ◌+◌, List, [], ◌∷◌, map, Option, Some, None, option_map, option_and_then, arith, refl, sym, ap, ◌∙◌, subst}
 use Rattle.hv_value.specs.declared.value.Shape.{Shape}
 use Rattle.hv_value.specs.declared.value.Shape.TheOpen.{Shape-F}
 use Rattle.hv_value.specs.declared.value.Shape.TheViews.{roll-Shape}

@@ -1,8 +1,8 @@
 -- Parts of a value, as parts of its tree.
-use Rattle.std.proofs.Common.{◌≡◌, ◌<◌, ℕ, zero, suc, List, [], ◌∷◌, length, slice_get, slice_set, IsSome, Option, Some, None, option_map, arith, refl, sym, ap, ◌∙◌}
+use Rattle.std.proofs.Common.{◌≡◌, ◌<◌, ℕ, zero, suc, List, [], ◌∷◌, length, slice_get, slice_set, IsSome, Some, option_map, arith, refl, ap, ◌∙◌}
 use Rattle.hv_value.specs.declared.value.Value.{Value}
 use Rattle.hv_value.specs.declared.value.PathStep.{PathStep}
-use Rattle.hv_value.specs.ValueTree.{ValueTree, Parts, Nil, Cons, tree_of, trees_of}
+use Rattle.hv_value.specs.ValueTree.{ValueTree, Cons, tree_of, trees_of}
 use Rattle.hv_value.specs.Places.{Path, nth, change_nth, part, change_part, put}
 use Rattle.hv_value.proofs.PartLaws.{part-same, change-twice, change-agree}
 

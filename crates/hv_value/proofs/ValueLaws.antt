@@ -1,5 +1,5 @@
 -- A value and its tree are the same, and a tree without holes is that of a value.
-use Rattle.std.proofs.Common.{◌≡◌, ℕ, ℤ, Bool, true, false, ◌&&◌, true≢false, List, [], ◌∷◌, map, Option, Some, None, is_some, option_map, arith, refl, sym, ap, ◌∙◌, subst}
+use Rattle.std.proofs.Common.{◌≡◌, ℕ, true, ◌&&◌, true≢false, List, [], ◌∷◌, map, Option, Some, None, is_some, option_map, arith, refl, sym, ap, ◌∙◌, subst}
 use Rattle.hv_value.specs.declared.value.Value.{Value}
 use Rattle.hv_value.specs.declared.value.Value.TheOpen.{Value-F}
 use Rattle.hv_value.specs.declared.value.Value.TheViews.{roll-Value}

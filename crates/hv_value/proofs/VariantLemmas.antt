@@ -1,12 +1,12 @@
 -- The tree of a value, by its variant.
-use Rattle.std.proofs.Common.{◌≡◌, ℕ, ℤ, Bool, List, [], ◌∷◌, refl, sym, ap, ◌∙◌}
+use Rattle.std.proofs.Common.{◌≡◌, ℕ, ℤ, Bool, List, refl, sym, ap, ◌∙◌}
 use Rattle.hv_value.specs.declared.value.Value.{Value, out-Value}
 use Rattle.hv_value.specs.declared.value.Value.TheOpen.{Value-F}
 use Rattle.hv_value.specs.declared.value.Value.TheViews.{the_lemmas}
 use Rattle.hv_value.specs.declared.value.Value.TheVariants as value
 use Rattle.hv_value.specs.declared.value.Value.TheFolds.{fold_out-Value}
 use Rattle.hv_value.specs.declared.value.PathStep.TheVariants.{Field, At}
-use Rattle.hv_value.specs.ValueTree.{ValueTree, Number, Truth, Fields, Elements, Closure, Parts, tree_of, trees_of, tree_step}
+use Rattle.hv_value.specs.ValueTree.{ValueTree, Number, Truth, Fields, Elements, Closure, tree_of, trees_of, tree_step}
 use Rattle.hv_value.specs.Places.{change_nth, change_part}
 
 opened_int : (z : ℤ) → out-Value (value.Int z) ≡ Value-F.Int z

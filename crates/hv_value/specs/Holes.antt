@@ -1,5 +1,5 @@
 -- Holes in trees: which trees have none, and what taking out and clearing leave.
-use Rattle.std.specs.Prelude.{ℕ, ◌+◌, Bool, true, false, ◌&&◌, if◌then◌else◌, List, [], ◌∷◌, sum, Option, Some, None, option_map, option_and_then}
+use Rattle.std.specs.Prelude.{ℕ, ◌+◌, Bool, true, false, ◌&&◌, if◌then◌else◌, Option, Some, None, option_map, option_and_then}
 use Rattle.hv_value.specs.declared.value.Shape.{Shape}
 use Rattle.hv_value.specs.declared.value.Shape.TheOpen.{Shape-F}
 use Rattle.hv_value.specs.declared.value.Shape.TheFolds.{fold-Shape}

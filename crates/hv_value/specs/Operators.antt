@@ -1,6 +1,6 @@
 -- What operations give, or how they trap.
-use Rattle.std.specs.Prelude.{ℕ, zero, suc, ◌^◌, Bool, true, false, not, if◌then◌else◌, nat_lt, nat_le, ℤ, pos, negsuc, ◌+ℤ◌, ◌-ℤ◌, ◌*ℤ◌, neg_ℤ, int_lt, int_le, int_div, int_rem, Option, Some, None}
-use Rattle.hv_value.specs.ValueTree.{ValueTree, Hole, Number, Truth, Fields, Elements, Closure, Parts, Nil, Cons}
+use Rattle.std.specs.Prelude.{ℕ, zero, suc, ◌^◌, Bool, not, if◌then◌else◌, nat_lt, nat_le, ℤ, pos, negsuc, ◌+ℤ◌, ◌-ℤ◌, ◌*ℤ◌, neg_ℤ, int_lt, int_le, int_div, int_rem, Option, Some, None}
+use Rattle.hv_value.specs.ValueTree.{ValueTree, Number, Truth, Elements, Parts, Nil, Cons}
 use Rattle.hv_value.specs.Equality.{same}
 
 pub data Given : Type 0 where

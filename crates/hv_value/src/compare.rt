@@ -9,7 +9,8 @@ use crate::value::Value;
 /// Whether the trees are equal.
 #[cycle(equal)]
 pub fn equal(a: &Value, b: &Value) -> bool
-    ensures { IsTrue result ↔ (a.now ≡ b.now) }
+    ensures equal { IsTrue result ↔ (a.now ≡ b.now) }
+    ensures tested { result ≡ spec.same (tree_of a.now) (tree_of b.now) }
 {
     match (a, b) {
         (Value::Int(i), Value::Int(j)) => i == j,
@@ -22,8 +23,10 @@ pub fn equal(a: &Value, b: &Value) -> bool
 }
 
 #[cycle(equal)]
+#[tactic(auto, using(crate::proofs::EqualityLaws::all_same_lengths))]
 fn equals(a: &[Value], b: &[Value]) -> bool
-    ensures { IsTrue result ↔ (a.now ≡ b.now) }
+    ensures equal { IsTrue result ↔ (a.now ≡ b.now) }
+    ensures tested { result ≡ spec.all_same (trees_of a.now) (trees_of b.now) }
 {
     if a.len() != b.len() {
         return false;

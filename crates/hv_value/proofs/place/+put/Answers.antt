@@ -1,7 +1,6 @@
-use Rattle.std.proofs.Common.{rules, arith}
+use Rattle.std.proofs.Common.{arith}
 use Rattle.std.proofs.lemmas.Grind.{common_steps}
 use Rattle.hv_value.specs.ValueTree.{tree_of}
-use Rattle.hv_value.specs.Places.{put}
 use Rattle.hv_value.proofs.StepLemmas.{put_there, put_back}
 use Rattle.hv_value.proofs.place.+put.Goals as goal
 
