@@ -9,7 +9,7 @@ use Rattle.hv_value.specs.Places.{Path, nth, part, get}
 use Rattle.hv_value.specs.Equality.{same_number, same_truth, same, all_same, has_function, some_function}
 use Rattle.hv_value.proofs.ValueLaws.{tree_of-injective}
 
-eqb-same : (m n : ℕ) → (m == n) ≡ true → m ≡ n
+pub eqb-same : (m n : ℕ) → (m == n) ≡ true → m ≡ n
 eqb-same m n h = go (eqb_tells m n)
   where
     go : ((m == n) ≡ true) × (m ≡ n) ⊎ ((m == n) ≡ false) × (m ≢ n) → m ≡ n

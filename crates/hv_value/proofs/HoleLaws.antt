@@ -161,3 +161,6 @@ pub put-taken : (p : Path) (t u r : ValueTree) → take_out t p ≡ Some (u, r) 
 put-taken p t u r h =
     let facts : (get t p ≡ Some u) × (is_whole u ≡ true) × (r ≡ clear t p) = taken p t u r h in
     ap (λ x. put x p u) facts.2 ∙ put-clear p t u ∙ put-get p t u facts.0
+
+-- for other crates, whose attributes name no lemma with a dash
+pub ruleset hole_laws = (is_whole-get, is_whole-put, is_whole-emptied, emptied-emptied, clear-there, get-clear, get-clear_apart, put-clear, clear-put, clear-clear, clear-put_apart, clear-swap, put-taken)

@@ -143,3 +143,6 @@ reach-put (s ∷ p) (r ∷ q) t v h = go r (reach-put p q) (apart_here s r p q h
         subst (λ r. reach (put t (s ∷ p) v) (r ∷ q) ≡ reach t (r ∷ q)) e.0
         (ap (one_more (λ c. reach c q)) (part-same t s (λ c. put c p v))
         ∙ more_map (λ c. reach c q) (λ c. reach c q) (λ c. put c p v) (part t s) (λ c. ih c v e.1))
+
+-- for other crates, whose attributes name no lemma with a dash
+pub ruleset place_laws = (get-append, get-put_inside, get-put_there, get-put_apart, put-swap, put-over, put-twice, put-get, put-append, reach-put, apart-sym, apart-append)

@@ -108,3 +108,6 @@ value_there t h = go (value_of t) refl (sym (is_whole-value t) ∙ h)
     go : (o : Option Value) → value_of t ≡ o → is_some o ≡ true → (v : Value) × (tree_of v ≡ t)
     go None e k = absurd (true≢false (sym k))
     go (Some v) e k = (v, tree_of-value_of t v e)
+
+-- for other crates, whose attributes name no lemma with a dash
+pub ruleset value_laws = (value_of-tree_of, tree_of-value_of, is_whole-tree_of)

@@ -49,3 +49,6 @@ pub array_changed : (u w : Value) (ps qs rs : List Value) (k : ℕ) (f : ValueTr
 array_changed u w ps qs rs k f e g i h =
     ap tree_of e ∙ tree-array qs ∙ ap Elements h
     ∙ sym (ap (λ t. change_part t (At k) f) (ap tree_of g ∙ ap (λ ps. tree_of (value.Array ps)) (sym i) ∙ tree-array rs))
+
+-- one equation for each variant, for other crates
+pub ruleset tree_variants = (tree-int, tree-bool, tree-struct, tree-array, tree-fun)

@@ -1,12 +1,12 @@
 -- Where a way with evaluated indices leads.
-use Rattle.std.proofs.Common.{◌≡◌, ◌≢◌, ◌<◌, ◌≤◌, ℕ, zero, suc, ℤ, pos, negsuc, Bool, true, false, ◌==◌, if◌then◌else◌, true≢false, List, [], ◌∷◌, ◌++◌, Option, Some, None, option_map, option_and_then, ◌⊎◌, inl, inr, arith, refl, sym, ap, ◌∙◌, subst}
-use Rattle.std.proofs.lemmas.Bool.Decides.{eqb_tells}
+use Rattle.std.proofs.Common.{◌≡◌, ◌≢◌, ◌<◌, ◌≤◌, ℕ, zero, suc, ℤ, pos, negsuc, Bool, true, false, if◌then◌else◌, true≢false, List, [], ◌∷◌, ◌++◌, Option, Some, None, option_map, option_and_then, ◌⊎◌, inl, inr, arith, refl, sym, ap, ◌∙◌, subst}
 use Rattle.hv_value.specs.declared.value.PathStep.{PathStep}
 use Rattle.hv_value.specs.declared.value.PathStep.TheVariants.{Field, At}
 use Rattle.hv_value.specs.ValueTree.{ValueTree, Hole, Number, Truth, Fields, Elements, Closure, Parts, Nil, Cons}
 use Rattle.hv_value.specs.Places.{Path, nth, change_nth, part, change_part, get, put}
 use Rattle.hv_value.specs.Operators.{count}
 use Rattle.hv_value.specs.Walk.{Link, ToField, ToIndex, Reached, Reaches, Outside, Lost, after_step, onward, step_on, walk, leads, parts_from}
+use Rattle.hv_value.proofs.EqualityLaws.{eqb-same}
 use Rattle.hv_value.proofs.PartLaws.{part-same, part-other}
 
 -- ---- numbers of parts
@@ -189,13 +189,6 @@ stops_walk {A = A} (l ∷ ls) t a h = go l t (stops_walk ls) h
 same_on : {A : Type 0} (f g : ValueTree → Reached A) (h : ValueTree → ValueTree) (s : PathStep) (other : Reached A) (o : Option ValueTree) → ((c : ValueTree) → f (h c) ≡ g c) → onward f s other (option_map h o) ≡ onward g s other o
 same_on f g h s other None ih = refl
 same_on f g h s other (Some c) ih = ap (after_step s) (ih c)
-
-eqb-same : (j k : ℕ) → (j == k) ≡ true → j ≡ k
-eqb-same j k h = go (eqb_tells j k)
-  where
-    go : ((j == k) ≡ true) × (j ≡ k) ⊎ ((j == k) ≡ false) × (j ≢ k) → j ≡ k
-    go (inl e) = e.1
-    go (inr e) = absurd (true≢false (sym h ∙ e.0))
 
 -- what a change of one part is to a way: it doesn't go there, or sees no difference there
 abbrev Unseen : {A : Type 0} → (ValueTree → Reached A) → PathStep → Link A → (ValueTree → ValueTree) → Type 0
