@@ -1,0 +1,11 @@
+pub mod EqualityLaws
+pub mod HoleLaws
+pub mod OperatorLaws
+pub mod PartLaws
+pub mod PlaceLaws
+pub mod ShapeLaws
+pub mod SizeLaws
+pub mod StepLemmas
+pub mod ValueLaws
+pub mod VariantLemmas
+pub mod WalkLaws
