@@ -1,12 +1,15 @@
 -- One word more of a line.
-use Rattle.std.proofs.Common.{◌≡◌, ◌∙◌, ℕ, ◌+◌, ◌<◌, Bool, true, false, cond, List, [], ◌∷◌, map, length, drop, sym, subst, ap, refl, drop-cons, add-one}
-use Rattle.std.specs.Prelude.{Option, Some, None, option_and_then, Result, String, string_bytes}
+use Rattle.std.proofs.Common.{◌≡◌, ◌∙◌, ℕ, ◌+◌, ◌<◌, ◌≤◌, Bool, true, false, cond, List, [], ◌∷◌, map, length, drop, sym, subst, ap, refl, drop-cons, add-one}
+use Rattle.std.specs.Prelude.{Option, Some, None, option_and_then, Result, Err, String, string_bytes}
+use Rattle.std.proofs.lemmas.List.{drop_all}
 use Rattle.std.specs.List.{list_any, slice_index_or}
 use Rattle.std.specs.Str.{bytes_eq}
 use Rattle.std.specs.Borrow.{Bor}
 use Rattle.hv_words.specs.Taken.{Form, Word, is_among, is_number}
-use Rattle.hv_words.specs.Line.{Seen, Steps, kept, name_step, named, noted, scan, step, value_step}
+use Rattle.hv_words.specs.Line.{Parts, Seen, Steps, ended, line_of, nothing_seen, kept, name_step, named, noted, scan, step, value_step}
+use Rattle.hv_words.specs.declared.line.Parted.{Parted}
 use Rattle.hv_words.specs.declared.order.WordsEnd.{WordsEnd}
+use Rattle.hv_words.specs.declared.order.WordsEnd.TheVariants.{Usage, NoMemory}
 
 word_first : {X : Type 0} (words : List X) (i : ℕ) (d : X) → i < length words → drop i words ≡ slice_index_or words i d ∷ drop (i + 1) words
 word_first words i d lt = rw (add-one, drop-cons words i d) refl
@@ -43,18 +46,32 @@ name_kept waits word s mid e =
     let same : noted word s ≡ mid = cc in
     ap (λ m. Some (kept word (record m { waits = waits }))) same
 
-pub scan_on : {A : Type 0} (f : Form) (words : List (String A)) (i : ℕ) (d : String A) (s now : Seen) (whole : Option Seen) → i < length words
-    → step f (string_bytes (slice_index_or words i d)) s ≡ Some now
-    → scan f (map string_bytes (drop i words)) s ≡ whole → scan f (map string_bytes (drop (i + 1) words)) now ≡ whole
-scan_on f words i d s now whole lt taken h =
-    let first = word_first words i d lt in
-    let opened = rw first at h in
-    ap (λ o. option_and_then (scan f (map string_bytes (drop (i + 1) words))) o) (sym taken) ∙ opened
+-- the invariant of the pass over the words: what was seen and the words that are left make the whole
+abbrev pub Goes : {A : Type 0} → Form → List (String A) → ℕ → Seen → Type 0
+Goes f words i s = scan f (map string_bytes (drop i words)) s ≡ scan f (map string_bytes words) nothing_seen
 
-pub scan_off : {A : Type 0} (f : Form) (words : List (String A)) (i : ℕ) (d : String A) (s : Seen) (whole : Option Seen) → i < length words
-    → step f (string_bytes (slice_index_or words i d)) s ≡ None
-    → scan f (map string_bytes (drop i words)) s ≡ whole → whole ≡ None
-scan_off f words i d s whole lt refused h =
-    let first = word_first words i d lt in
+pub goes_on : {A : Type 0} (f : Form) (words : List (String A)) (i : ℕ) (x : String A) (word : Word) (s now : Seen) → i < length words
+    → x ≡ slice_index_or words i x → word ≡ string_bytes x → step f word s ≡ Some now
+    → Goes f words i s → Goes f words (i + 1) now
+goes_on f words i x word s now lt is text taken h =
+    let first : drop i words ≡ slice_index_or words i x ∷ drop (i + 1) words = word_first words i x lt in
+    let here : step f (string_bytes (slice_index_or words i x)) s ≡ Some now = ap (λ y. step f (string_bytes y) s) (sym is) ∙ ap (λ w. step f w s) (sym text) ∙ taken in
     let opened = rw first at h in
-    sym opened ∙ ap (λ o. option_and_then (scan f (map string_bytes (drop (i + 1) words))) o) refused
+    ap (λ o. option_and_then (scan f (map string_bytes (drop (i + 1) words))) o) (sym here) ∙ opened
+
+pub goes_off : {A : Type 0} (f : Form) (words : List (String A)) (i : ℕ) (x : String A) (word : Word) (s now : Seen) (end : WordsEnd) → i < length words
+    → x ≡ slice_index_or words i x → word ≡ string_bytes x → Steps (step f word s) now (Err end)
+    → Goes f words i s → Parts (line_of f (map string_bytes words)) (Err end)
+goes_off f words i x word s now NoMemory lt is text taken h = tt
+goes_off f words i x word s now Usage lt is text taken h =
+    let first : drop i words ≡ slice_index_or words i x ∷ drop (i + 1) words = word_first words i x lt in
+    let here : step f (string_bytes (slice_index_or words i x)) s ≡ None = ap (λ y. step f (string_bytes y) s) (sym is) ∙ ap (λ w. step f w s) (sym text) ∙ taken in
+    let opened = rw first at h in
+    ap (option_and_then ended) (sym opened ∙ ap (λ o. option_and_then (scan f (map string_bytes (drop (i + 1) words))) o) here)
+
+pub goes_out : {A : Type 0} (f : Form) (words : List (String A)) (i : ℕ) (s : Seen) (r : Result Parted WordsEnd) → length words ≤ i
+    → Parts (ended s) r → Goes f words i s → Parts (line_of f (map string_bytes words)) r
+goes_out f words i s r past p h =
+    let none : drop i words ≡ [] = drop_all i words past in
+    let opened = rw none at h in
+    subst (λ o. Parts (option_and_then ended o) r) opened p

@@ -159,7 +159,9 @@ pub(crate) fn part(alloc: Global, subcommand: Subcommand, words: &[String]) -> R
 {
     let mut line = Line::new(alloc);
     for word in words {
-        line.take(subcommand, word.as_str())?;
+        if let Err(end) = line.take(subcommand, word.as_str()) {
+            return Err(end);
+        }
     }
     line.finish()
 }
