@@ -2,6 +2,10 @@
 use Rattle.std.specs.Prelude.{Some, true, codes}
 use Rattle.clap.specs.Words.{App, Rule, new_app, new_rule, with_rule}
 use Rattle.clap.specs.declared.builder.action.ArgAction.TheVariants.{Set, SetTrue}
+use Rattle.clap.specs.declared.error.kind.ErrorKind.{ErrorKind}
+use Rattle.clap.specs.declared.error.kind.ErrorKind.TheVariants.{OutOfMemory}
+use Rattle.hv_words.specs.declared.order.WordsEnd.{WordsEnd}
+use Rattle.hv_words.specs.declared.order.WordsEnd.TheVariants.{Usage, NoMemory}
 use Rattle.clap.specs.declared.builder.value_parser.ValueParser.{ValueParser}
 use Rattle.clap.specs.declared.builder.value_parser.ValueParser.TheVariants.{Unsigned}
 
@@ -29,3 +33,8 @@ steps_parser = Unsigned 1 1073741824
 
 unfoldable pub settings_app : App
 settings_app = app_by steps_parser
+
+-- the end that an error of clap is
+abbrev pub end_by : ErrorKind → WordsEnd
+end_by OutOfMemory = NoMemory
+end_by _ = Usage

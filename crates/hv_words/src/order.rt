@@ -1,9 +1,10 @@
 //! Orders, and how words give one.
-ghost use Rattle.std.specs.Prelude.{map, string_bytes};
+ghost use Rattle.std.specs.Prelude.{◌∷◌, map, string_bytes};
 ghost use Rattle.hv_words.specs.Answers.{Answers};
+ghost use Rattle.hv_words.specs.Line.{form};
 
 use crate::line::part;
-use crate::settings::read_settings;
+use crate::settings::{Settings, read_settings};
 use crate::subcommand::Subcommand;
 use std::alloc::Global;
 use thiserror::Error;
@@ -40,29 +41,26 @@ pub fn read_words(alloc: Global, words: &[String]) -> Result<Order, WordsEnd>
     }
 }
 
-fn order_of(alloc: Global, subcommand: Subcommand, words: &[String]) -> Result<Order, WordsEnd> {
-    let parted = part(alloc, subcommand, words)?;
+fn order_of(alloc: Global, subcommand: Subcommand, words: &[String]) -> Result<Order, WordsEnd>
+    ensures { Answers ((form subcommand).name ∷ map string_bytes words.now) result }
+{
+    let parted = match part(alloc, subcommand, words) {
+        Ok(parted) => parted,
+        Err(end) => return Err(end),
+    };
     let Ok(file) = String::from_str(alloc, parted.file) else {
         return Err(WordsEnd::NoMemory);
     };
     match subcommand {
         Subcommand::Check => Ok(Order::Check { file }),
         Subcommand::Show => Ok(Order::Show { file }),
-        Subcommand::Plain => {
-            let settings = read_settings(alloc, parted.left.as_slice())?;
-            Ok(Order::Plain {
-                file,
-                steps: settings.steps,
-                trace: settings.trace,
-            })
-        }
-        Subcommand::Run => {
-            let settings = read_settings(alloc, parted.left.as_slice())?;
-            Ok(Order::Run {
-                file,
-                steps: settings.steps,
-                trace: settings.trace,
-            })
-        }
+        Subcommand::Plain => match read_settings(alloc, parted.left.as_slice()) {
+            Ok(Settings { steps, trace }) => Ok(Order::Plain { file, steps, trace }),
+            Err(end) => Err(end),
+        },
+        Subcommand::Run => match read_settings(alloc, parted.left.as_slice()) {
+            Ok(Settings { steps, trace }) => Ok(Order::Run { file, steps, trace }),
+            Err(end) => Err(end),
+        },
     }
 }

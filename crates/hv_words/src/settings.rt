@@ -1,8 +1,8 @@
 //! The options and flags of `plain` and `run`, read by clap.
 ghost use Rattle.std.specs.Prelude.{◌≡◌, IfOk, map};
-ghost use Rattle.clap.specs.Words.{app_of};
+ghost use Rattle.clap.specs.Words.{app_of, kind_of};
 ghost use Rattle.hv_words.specs.Settings.{ReadsLeft};
-ghost use Rattle.hv_words.specs.Reading.{settings_app};
+ghost use Rattle.hv_words.specs.Reading.{end_by, settings_app};
 
 use crate::order::WordsEnd;
 use clap::builder::ValueParser;
@@ -39,7 +39,9 @@ fn command<'a>(alloc: Global) -> Result<Command<'a>, AllocError>
         .arg(trace)
 }
 
-fn end_of(error: Error) -> WordsEnd {
+fn end_of(error: Error) -> WordsEnd
+    ensures { result ≡ end_by (kind_of error) }
+{
     match error.kind() {
         ErrorKind::OutOfMemory => WordsEnd::NoMemory,
         _ => WordsEnd::Usage,
