@@ -2,7 +2,7 @@
 use Rattle.std.proofs.Common.{◌≡◌, ◌∙◌, ℕ, Bool, true, false, List, [], ◌∷◌, ◌++◌, sym, subst, ap, refl}
 use Rattle.std.specs.Prelude.{Option, Some, None, Result, Ok, Err}
 use Rattle.hv_words.specs.Taken.{AllFit, AreNew, Asked, Asks, Form, Item, Sets, Taken, Word, check, form_of, has_flag, plain, plain_form, positionals, run, show, spelled, steps_option, trace_flag}
-use Rattle.hv_words.specs.Line.{form, line_of, subcommand_named}
+use Rattle.hv_words.specs.Line.{Parts, form, line_of, subcommand_named}
 use Rattle.hv_words.specs.Settings.{HasSettings, ReadsLeft, left_of}
 use Rattle.hv_words.specs.Answers.{Answers}
 use Rattle.hv_words.proofs.TakenLemmas.{Read, sound, state, whole}
@@ -61,7 +61,7 @@ is_taken words a t = (t, λ other o. taken_once words other a o t)
 
 pub none_taken : (s : Subcommand) (words : List Word) → line_of (form s) words ≡ None → (a : Asked) → Taken ((form s).name ∷ words) a → ⊥
 none_taken s words none a t =
-    let bad : Some (file_of a, left_of (lined s words a t).items) ≡ None = sym (lined s words a t).line ∙ none in
+    let bad : ◌≡◌ {A = Option (Word × List Word)} (Some (file_of a, left_of (lined s words a t).items)) None = sym (lined s words a t).line ∙ none in
     absurd cc
 
 module _ (s : Subcommand) (words : List Word) (file : Word) (left : List Word) (line : line_of (form s) words ≡ Some (file, left)) where
@@ -103,9 +103,9 @@ run_taken words file left settings line reads =
     let has = reads r.items (fits_plain r.items r.fits) r.new (left_is Run words file left line) in
     is_taken _ _ (make Run words file left line (run file settings.steps settings.trace) refl (r.one, has.0, has.1))
 
-same_left : (f g : Word) (l m : List Word) → Some (f, l) ≡ Some (g, m) → l ≡ m
+same_left : (f g : Word) (l m : List Word) → ◌≡◌ {A = Option (Word × List Word)} (Some (f, l)) (Some (g, m)) → l ≡ m
 same_left f g l m e =
-    let pair : (f, l) ≡ (g, m) = cc in
+    let pair : ◌≡◌ {A = Word × List Word} (f, l) (g, m) = cc in
     ap (λ (p : Word × List Word). p.1) pair
 
 plain_steps : (items : List Item) (a : Asked) → subcommand_of a ≡ Plain → Asks items a → (n : ℕ) × Sets steps_option items n
@@ -144,3 +144,53 @@ unnamed word words none a t =
     let names : word ≡ (form_of a).name = cc in
     let bad : Some (subcommand_of a) ≡ None = sym (named_asked a) ∙ ap subcommand_named (sym names) ∙ none in
     absurd cc
+
+-- ---- the answers, by the subcommand that was named
+
+pub check_answer : (s : Subcommand) (words : List Word) (file name : Word) (left : List Word) → s ≡ Check → name ≡ file
+    → line_of (form s) words ≡ Some (file, left) → IsTaken ((form s).name ∷ words) (check name)
+check_answer s words file name left is same line =
+    subst (λ t. IsTaken ((form t).name ∷ words) (check name)) (sym is)
+    (subst (λ n. IsTaken ((form Check).name ∷ words) (check n)) (sym same)
+    (check_taken words file left (subst (λ t. line_of (form t) words ≡ Some (file, left)) is line)))
+
+pub show_answer : (s : Subcommand) (words : List Word) (file name : Word) (left : List Word) → s ≡ Show → name ≡ file
+    → line_of (form s) words ≡ Some (file, left) → IsTaken ((form s).name ∷ words) (show name)
+show_answer s words file name left is same line =
+    subst (λ t. IsTaken ((form t).name ∷ words) (show name)) (sym is)
+    (subst (λ n. IsTaken ((form Show).name ∷ words) (show n)) (sym same)
+    (show_taken words file left (subst (λ t. line_of (form t) words ≡ Some (file, left)) is line)))
+
+pub plain_answer : (s : Subcommand) (words : List Word) (file name : Word) (left rest : List Word) (settings : Settings) → s ≡ Plain → name ≡ file → rest ≡ left
+    → line_of (form s) words ≡ Some (file, left) → ReadsLeft rest (Ok settings) → IsTaken ((form s).name ∷ words) (plain name settings.steps settings.trace)
+plain_answer s words file name left rest settings is same rests line reads =
+    subst (λ t. IsTaken ((form t).name ∷ words) (plain name settings.steps settings.trace)) (sym is)
+    (subst (λ n. IsTaken ((form Plain).name ∷ words) (plain n settings.steps settings.trace)) (sym same)
+    (plain_taken words file left settings (subst (λ t. line_of (form t) words ≡ Some (file, left)) is line)
+    (subst (λ l. ReadsLeft l (Ok settings)) rests reads)))
+
+pub run_answer : (s : Subcommand) (words : List Word) (file name : Word) (left rest : List Word) (settings : Settings) → s ≡ Run → name ≡ file → rest ≡ left
+    → line_of (form s) words ≡ Some (file, left) → ReadsLeft rest (Ok settings) → IsTaken ((form s).name ∷ words) (run name settings.steps settings.trace)
+run_answer s words file name left rest settings is same rests line reads =
+    subst (λ t. IsTaken ((form t).name ∷ words) (run name settings.steps settings.trace)) (sym is)
+    (subst (λ n. IsTaken ((form Run).name ∷ words) (run n settings.steps settings.trace)) (sym same)
+    (run_taken words file left settings (subst (λ t. line_of (form t) words ≡ Some (file, left)) is line)
+    (subst (λ l. ReadsLeft l (Ok settings)) rests reads)))
+
+pub plain_end : (s : Subcommand) (words : List Word) (file : Word) (left rest : List Word) (end : WordsEnd) → s ≡ Plain → rest ≡ left
+    → line_of (form s) words ≡ Some (file, left) → ReadsLeft rest (Err end) → Answers ((form s).name ∷ words) (Err end)
+plain_end s words file left rest end is rests line reads =
+    subst (λ t. Answers ((form t).name ∷ words) (Err end)) (sym is)
+    (plain_ends words file left end (subst (λ t. line_of (form t) words ≡ Some (file, left)) is line)
+    (subst (λ l. ReadsLeft l (Err end)) rests reads))
+
+pub run_end : (s : Subcommand) (words : List Word) (file : Word) (left rest : List Word) (end : WordsEnd) → s ≡ Run → rest ≡ left
+    → line_of (form s) words ≡ Some (file, left) → ReadsLeft rest (Err end) → Answers ((form s).name ∷ words) (Err end)
+run_end s words file left rest end is rests line reads =
+    subst (λ t. Answers ((form t).name ∷ words) (Err end)) (sym is)
+    (run_ends words file left end (subst (λ t. line_of (form t) words ≡ Some (file, left)) is line)
+    (subst (λ l. ReadsLeft l (Err end)) rests reads))
+
+pub part_end : (s : Subcommand) (words : List Word) (end : WordsEnd) → Parts (line_of (form s) words) (Err end) → Answers ((form s).name ∷ words) (Err end)
+part_end s words NoMemory h = tt
+part_end s words Usage h = none_taken s words h

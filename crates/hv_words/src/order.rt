@@ -4,7 +4,7 @@ ghost use Rattle.hv_words.specs.Answers.{Answers};
 ghost use Rattle.hv_words.specs.Line.{form};
 
 use crate::line::part;
-use crate::settings::{Settings, read_settings};
+use crate::settings::read_settings;
 use crate::subcommand::Subcommand;
 use std::alloc::Global;
 use thiserror::Error;
@@ -55,11 +55,19 @@ fn order_of(alloc: Global, subcommand: Subcommand, words: &[String]) -> Result<O
         Subcommand::Check => Ok(Order::Check { file }),
         Subcommand::Show => Ok(Order::Show { file }),
         Subcommand::Plain => match read_settings(alloc, parted.left.as_slice()) {
-            Ok(Settings { steps, trace }) => Ok(Order::Plain { file, steps, trace }),
+            Ok(settings) => Ok(Order::Plain {
+                file,
+                steps: settings.steps,
+                trace: settings.trace,
+            }),
             Err(end) => Err(end),
         },
         Subcommand::Run => match read_settings(alloc, parted.left.as_slice()) {
-            Ok(Settings { steps, trace }) => Ok(Order::Run { file, steps, trace }),
+            Ok(settings) => Ok(Order::Run {
+                file,
+                steps: settings.steps,
+                trace: settings.trace,
+            }),
             Err(end) => Err(end),
         },
     }
