@@ -1,6 +1,9 @@
 -- From a line and its settings to the order.
-use Rattle.std.proofs.Common.{◌≡◌, ◌∙◌, ℕ, Bool, true, false, List, [], ◌∷◌, ◌++◌, sym, subst, ap, refl}
-use Rattle.std.specs.Prelude.{Option, Some, None, Result, Ok, Err}
+use Rattle.std.proofs.Common.{◌≡◌, ◌∙◌, ◌≤◌, ℕ, Bool, true, false, cond, List, [], ◌∷◌, ◌++◌, map, length, drop, codes, sym, subst, ap, refl, arith}
+use Rattle.std.specs.Prelude.{Option, Some, None, Result, Ok, Err, String, string_bytes}
+use Rattle.std.specs.List.{slice_index_or}
+use Rattle.std.specs.Str.{bytes_eq}
+use Rattle.std.proofs.lemmas.Slice.Eq.{bytes_eq-Decides}
 use Rattle.hv_words.specs.Taken.{AllFit, AreNew, Asked, Asks, Form, Item, Sets, Taken, Word, check, form_of, has_flag, plain, plain_form, positionals, run, show, spelled, steps_option, trace_flag}
 use Rattle.hv_words.specs.Line.{Parts, form, line_of, subcommand_named}
 use Rattle.hv_words.specs.Settings.{HasSettings, ReadsLeft, left_of}
@@ -9,6 +12,7 @@ use Rattle.hv_words.proofs.TakenLemmas.{Read, sound, state, whole}
 use Rattle.hv_words.proofs.OrderLemmas.{form_is, name_is, named_asked, subcommand_of, taken_once}
 use Rattle.hv_words.proofs.LeftLemmas.{fits_plain}
 use Rattle.hv_words.specs.declared.settings.Settings.{Settings}
+use Rattle.hv_words.specs.declared.order.Order.{Order}
 use Rattle.hv_words.specs.declared.order.WordsEnd.{WordsEnd}
 use Rattle.hv_words.specs.declared.order.WordsEnd.TheVariants.{Usage, NoMemory}
 use Rattle.hv_words.specs.declared.subcommand.Subcommand.{Subcommand}
@@ -194,3 +198,50 @@ run_end s words file left rest end is rests line reads =
 pub part_end : (s : Subcommand) (words : List Word) (end : WordsEnd) → Parts (line_of (form s) words) (Err end) → Answers ((form s).name ∷ words) (Err end)
 part_end s words NoMemory h = tt
 part_end s words Usage h = none_taken s words h
+
+-- ---- the name
+
+same_word : (a b : Word) → bytes_eq a b ≡ true → b ≡ a
+same_word a b e = sym ((bytes_eq-Decides a b).0 e)
+
+-- the subcommand that a word names has that name
+pub named_is : (word : Word) (s : Subcommand) → subcommand_named word ≡ Some s → (form s).name ≡ word
+named_is word s e =
+    go (bytes_eq word (codes "check")) (bytes_eq word (codes "show")) (bytes_eq word (codes "plain")) (bytes_eq word (codes "run")) refl refl refl refl e
+  where
+    go : (a b c d : Bool) → bytes_eq word (codes "check") ≡ a → bytes_eq word (codes "show") ≡ b → bytes_eq word (codes "plain") ≡ c → bytes_eq word (codes "run") ≡ d
+        → cond a (Some Check) (cond b (Some Show) (cond c (Some Plain) (cond d (Some Run) None))) ≡ Some s → (form s).name ≡ word
+    go true b c d p q r t h =
+        let is : Check ≡ s = cc in
+        subst (λ x. (form x).name ≡ word) is (same_word word (codes "check") p)
+    go false true c d p q r t h =
+        let is : Show ≡ s = cc in
+        subst (λ x. (form x).name ≡ word) is (same_word word (codes "show") q)
+    go false false true d p q r t h =
+        let is : Plain ≡ s = cc in
+        subst (λ x. (form x).name ≡ word) is (same_word word (codes "plain") r)
+    go false false false true p q r t h =
+        let is : Run ≡ s = cc in
+        subst (λ x. (form x).name ≡ word) is (same_word word (codes "run") t)
+    go false false false false p q r t h = absurd cc
+
+pub first_named : {A : Type 0} (words rest : List (String A)) (d : String A) (word : Word) (s : Subcommand) (r : Result Order WordsEnd) → 1 ≤ length words → rest ≡ drop 1 words
+    → word ≡ string_bytes (slice_index_or words 0 d) → subcommand_named word ≡ Some s
+    → Answers ((form s).name ∷ map string_bytes rest) r → Answers (map string_bytes words) r
+first_named [] rest d word s r some is text named h = absurd (omega arith)
+first_named (x ∷ xs) rest d word s r some is text named h =
+    let name : (form s).name ≡ string_bytes x = named_is word s named ∙ text in
+    subst (λ w. Answers (w ∷ map string_bytes xs) r) name (subst (λ l. Answers ((form s).name ∷ map string_bytes l) r) is h)
+
+pub first_unnamed : {A : Type 0} (words : List (String A)) (d : String A) (word : Word) → 1 ≤ length words
+    → word ≡ string_bytes (slice_index_or words 0 d) → subcommand_named word ≡ None
+    → (a : Asked) → Taken (map string_bytes words) a → ⊥
+first_unnamed [] d word some text none = absurd (omega arith)
+first_unnamed (x ∷ xs) d word some text none =
+    unnamed (string_bytes x) (map string_bytes xs) (ap subcommand_named (sym text) ∙ none)
+
+pub no_words : {A : Type 0} (words : List (String A)) → length words ≡ 0 → (a : Asked) → Taken (map string_bytes words) a → ⊥
+no_words [] e a t =
+    let bad : [] ≡ (form_of a).name ∷ spelled t.0 = t.1 in
+    absurd cc
+no_words (x ∷ xs) e a t = absurd (omega arith)

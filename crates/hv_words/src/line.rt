@@ -147,14 +147,21 @@ impl<'a> Line<'a> {
             return Err(WordsEnd::Usage);
         }
         match self.file {
-            Some(file) => Ok(Parted { file, left: self.left }),
+            Some(file) => Ok(Parted {
+                file,
+                left: self.left,
+            }),
             None => Err(WordsEnd::Usage),
         }
     }
 }
 
 /// Parts the positional from the options and flags.
-pub(crate) fn part(alloc: Global, subcommand: Subcommand, words: &[String]) -> Result<Parted<'_>, WordsEnd>
+pub(crate) fn part(
+    alloc: Global,
+    subcommand: Subcommand,
+    words: &[String],
+) -> Result<Parted<'_>, WordsEnd>
     ensures { Parts (line_of (form subcommand) (map string_bytes words.now)) result }
 {
     let mut line = Line::new(alloc);

@@ -12,10 +12,22 @@ use thiserror::Error;
 /// What the words ask for.
 #[derive(Debug, Drop)]
 pub enum Order {
-    Check { file: String },
-    Show { file: String },
-    Plain { file: String, steps: u64, trace: bool },
-    Run { file: String, steps: u64, trace: bool },
+    Check {
+        file: String,
+    },
+    Show {
+        file: String,
+    },
+    Plain {
+        file: String,
+        steps: u64,
+        trace: bool,
+    },
+    Run {
+        file: String,
+        steps: u64,
+        trace: bool,
+    },
 }
 
 /// Why words give no order.

@@ -18,7 +18,9 @@ pub(crate) struct Settings {
 }
 
 const LEAST_STEPS: u64 = 1;
+
 const MOST_STEPS: u64 = 1_073_741_824;
+
 const DEFAULT_STEPS: u64 = 10_000_000;
 
 /// A command of options and flags alone.
