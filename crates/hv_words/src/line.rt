@@ -143,15 +143,12 @@ impl<'a> Line<'a> {
     fn finish(self) -> Result<Parted<'a>, WordsEnd>
         ensures { Parts (ended (seen_of self.entry)) result }
     {
-        if self.waits {
-            return Err(WordsEnd::Usage);
-        }
         match self.file {
-            Some(file) => Ok(Parted {
+            Some(file) if !self.waits => Ok(Parted {
                 file,
                 left: self.left,
             }),
-            None => Err(WordsEnd::Usage),
+            _ => Err(WordsEnd::Usage),
         }
     }
 }
