@@ -4,9 +4,9 @@ use Rattle.std.specs.Prelude.{Option, Some, None, Result, Ok, Err, String, strin
 use Rattle.std.specs.List.{slice_index_or}
 use Rattle.std.specs.Str.{bytes_eq}
 use Rattle.std.proofs.lemmas.Slice.Eq.{bytes_eq-Decides}
-use Rattle.hv_words.specs.Taken.{AllFit, AreNew, Asked, Asks, Form, Item, Sets, Taken, Word, check, form_of, has_flag, plain, plain_form, positionals, run, show, spelled, steps_option, trace_flag}
+use Rattle.hv_words.specs.Taken.{AllFit, AreNew, Asked, Asks, Item, Sets, Taken, Word, check, form_of, plain, positionals, run, show, spelled, steps_option}
 use Rattle.hv_words.specs.Line.{Parts, form, line_of, subcommand_named}
-use Rattle.hv_words.specs.Settings.{HasSettings, ReadsLeft, left_of}
+use Rattle.hv_words.specs.Settings.{ReadsLeft, left_of}
 use Rattle.hv_words.specs.Answers.{Answers}
 use Rattle.hv_words.proofs.TakenLemmas.{Read, sound, state, whole}
 use Rattle.hv_words.proofs.OrderLemmas.{form_is, name_is, named_asked, subcommand_of, taken_once}

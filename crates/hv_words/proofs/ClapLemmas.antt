@@ -2,9 +2,8 @@
 use Rattle.std.proofs.Common.{◌≡◌, ℕ, Bool, true, false, cond, List, [], ◌∷◌, codes, refl, sym, true≢false}
 use Rattle.std.specs.Prelude.{Option, Some, None, option_map}
 use Rattle.clap.specs.Walk.{Text, one_of}
-use Rattle.clap.specs.Simple.{App, is_simple, matches_of}
+use Rattle.clap.specs.Simple.{is_simple, matches_of}
 use Rattle.clap.specs.Faults.{fault_of, is_simple_and_free}
-use Rattle.clap.specs.Kinds.{Kinds}
 use Rattle.clap.specs.Values.{read_as, reading_of, refused_kind}
 use Rattle.clap.specs.ValueTests.{accepts}
 use Rattle.clap.proofs.OnLiterals.{clap_on_literals}

@@ -1,10 +1,10 @@
 -- What digits write is what std and clap read.
-use Rattle.std.proofs.Common.{◌≡◌, ◌∙◌, ◌==◌, ◌&&◌, ◌<◌, ◌≤◌, ◌≢◌, ◌^◌, ◌+◌, ◌-◌, ℕ, zero, suc, Bool, true, false, cond, List, [], ◌∷◌, length, slice_index, sym, subst, ap, ap₂, refl, arith, true≢false}
-use Rattle.std.specs.Prelude.{Result, Ok, Err, nat_le, nat_lt, if◌then◌else◌}
+use Rattle.std.proofs.Common.{◌≡◌, ◌∙◌, ◌&&◌, ◌<◌, ◌≤◌, ◌≢◌, ◌^◌, ◌+◌, ◌-◌, ℕ, zero, suc, true, [], ◌∷◌, length, slice_index, sym, subst, ap, ap₂, refl, arith}
+use Rattle.std.specs.Prelude.{Result, Ok, nat_le, nat_lt}
 use Rattle.std.specs.List.{list_all}
 use Rattle.std.specs.Char.{digit_value}
-use Rattle.std.specs.Str.Parse.{AllDigits, IsNumeral, ParsesUnsigned, digits_value, without_leading_plus}
-use Rattle.std.proofs.lemmas.Bool.{leb-true, le-leb, ltb-true, lt-ltb}
+use Rattle.std.specs.Str.Parse.{AllDigits, ParsesUnsigned, digits_value, without_leading_plus}
+use Rattle.std.proofs.lemmas.Bool.{leb-true, le-leb, lt-ltb}
 use Rattle.std.proofs.lemmas.Str.Parse.{IsDigitsTest, IsNumeralModel, WeighsDigits, numerals_by_weight, parse_gives, digit_from_value, without_leading_plus_none}
 use Rattle.clap.specs.ValueTests.{is_numeral, is_unsigned_in}
 use Rattle.clap.proofs.WalkLemmas.{both}

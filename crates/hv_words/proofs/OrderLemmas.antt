@@ -1,10 +1,8 @@
 -- The items of a line are the only ones, and so is what they ask for.
-use Rattle.std.proofs.Common.{◌≡◌, ◌∙◌, ℕ, Bool, true, false, List, [], ◌∷◌, ◌++◌, sym, subst, ap, refl}
+use Rattle.std.proofs.Common.{◌≡◌, ◌∙◌, ℕ, List, [], ◌∷◌, sym, subst, ap, refl}
 use Rattle.std.specs.Prelude.{Option, Some, None}
-use Rattle.hv_words.specs.Taken.{AllFit, AreNew, Asked, Asks, Form, Item, Sets, SetsTo, Setting, Taken, Word, check, flag, form_of, is_among, option, plain, plain_form, positional, positionals, run, run_form, show, spelled, steps_option, value_of}
-use Rattle.hv_words.specs.Line.{form, line_of, nothing_seen, subcommand_named}
-use Rattle.hv_words.specs.Settings.{left_of}
-use Rattle.hv_words.proofs.TakenLemmas.{Read, sound, state, whole}
+use Rattle.hv_words.specs.Taken.{AllFit, Asked, Asks, Form, Item, SetsTo, Setting, Taken, Word, check, flag, form_of, option, plain, positional, run, show, spelled, steps_option, value_of}
+use Rattle.hv_words.specs.Line.{form, subcommand_named}
 use Rattle.hv_words.specs.declared.subcommand.Subcommand.{Subcommand}
 use Rattle.hv_words.specs.declared.subcommand.Subcommand.TheVariants.{Check, Show, Plain, Run}
 

@@ -1,13 +1,9 @@
 -- The line that is read word by word is the items of the definition.
-use Rattle.std.proofs.Common.{◌≡◌, ◌∙◌, ◌+◌, ℕ, ◌&&◌, ◌||◌, ◌==◌, Bool, true, false, cond, List, [], ◌∷◌, ◌++◌, length, sym, subst, ap, refl, append_assoc, append-nil, true≢false}
-use Rattle.std.specs.Prelude.{Option, Some, None, option_and_then, option_map, codes}
-use Rattle.hv_words.specs.Taken.{AllFit, AreNew, Asked, Asks, FitsForm, Form, Item, Sets, SetsTo, Setting, Taken, Word, check, flag, form_of, is_among, is_number, is_positional, option, plain, plain_form, positional, positionals, run, run_form, show, spelled}
-use Rattle.hv_words.specs.Line.{Seen, ended, file_step, form, kept, kind_of, kind_step, line_of, name_step, named, nothing_seen, scan, step, subcommand_named, value_step}
+use Rattle.std.proofs.Common.{◌≡◌, ◌∙◌, Bool, true, false, List, [], ◌∷◌, ◌++◌, sym, ap, refl, append_assoc, append-nil}
+use Rattle.std.specs.Prelude.{Option, Some, None, option_and_then, option_map}
+use Rattle.hv_words.specs.Taken.{AllFit, AreNew, Form, Item, Word, flag, is_among, is_number, is_positional, option, positional, positionals, spelled}
+use Rattle.hv_words.specs.Line.{Seen, ended, scan}
 use Rattle.hv_words.specs.Settings.{left_of}
-use Rattle.hv_words.specs.declared.subcommand.Kind.{Kind}
-use Rattle.hv_words.specs.declared.subcommand.Kind.TheVariants.{Valued, Flag, Positional, Unknown}
-use Rattle.hv_words.specs.declared.subcommand.Subcommand.{Subcommand}
-use Rattle.hv_words.specs.declared.subcommand.Subcommand.TheVariants.{Check, Show, Plain, Run}
 
 abbrev pub of_option : Option Word → List Word
 of_option None = []
