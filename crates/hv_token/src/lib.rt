@@ -1,0 +1,7 @@
+//! Source bytes as tokens, each the longest that begins there.
+#![tactic(auto)]
+
+mod class;
+mod piece;
+
+pub use hv_tree::{Token, TokenKind};
