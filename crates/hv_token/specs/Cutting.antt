@@ -1,14 +1,15 @@
 -- One piece after the other, as the code cuts them.
 use Rattle.std.specs.Prelude.{◌≡◌, ℕ, Bool, true, false, ◌||◌, ◌&&◌, if◌then◌else◌, ◌==◌, List, [], ◌∷◌, ◌++◌, Option, Some, None, pos}
 use Rattle.std.specs.Char.{encode_utf8}
-use Rattle.std.specs.Str.{chars}
+use Rattle.std.specs.Str.{chars, encode_utf8_all}
 use Rattle.hv_tree.specs.declared.token.TokenKind.{TokenKind}
+use Rattle.hv_tree.specs.declared.token.TokenKind.TheVariants as kind
 use Rattle.hv_token.specs.declared.piece.Sort.{Sort}
 use Rattle.hv_token.specs.declared.piece.Sort.TheVariants.{Blank, Word, Number, Mark}
 use Rattle.hv_token.specs.declared.class.Class.{Class}
 use Rattle.hv_token.specs.declared.class.Class.TheVariants.{WordRest, Digit, Line}
 use Rattle.hv_token.specs.Characters.{among, is_space, is_digit, starts_word, continues_word, stays_in_line}
-use Rattle.hv_token.specs.Pieces.{width}
+use Rattle.hv_token.specs.Pieces.{width, value_of, word_kind}
 
 -- the marks of one character
 abbrev pub singles : List ℕ
@@ -74,3 +75,10 @@ pub record Begins (text : List ℕ) (c : ℕ) (after : List ℕ) : Type 0 where
 pub record Parts (text : List ℕ) (sort : Sort) (piece after : List ℕ) : Type 0 where
   pub cuts : cut (chars text) ≡ Some (sort, chars piece, chars after)
   pub bytes : text ≡ piece ++ after
+
+-- the token that a piece of that sort is
+abbrev pub kind_for : Sort → List ℕ → Option TokenKind
+kind_for Blank text = None
+kind_for Word text = Some (word_kind (encode_utf8_all text))
+kind_for Number text = Some (kind.Number (pos (value_of text)))
+kind_for Mark text = Some (kind.Mark (encode_utf8_all text))
