@@ -1,3 +1,6 @@
 pub mod Scanning
 pub mod Shapes
 pub mod Longest
+pub mod Cuts
+pub mod Stops
+pub mod Lexing
