@@ -4,3 +4,4 @@ pub mod Longest
 pub mod Cuts
 pub mod Stops
 pub mod Lexing
+pub mod Only
