@@ -5,3 +5,6 @@ pub mod Cuts
 pub mod Stops
 pub mod Lexing
 pub mod Only
+pub mod Taking
+pub mod Digits
+pub mod Turns

@@ -12,7 +12,7 @@ use Rattle.hv_token.specs.declared.piece.Sort.{Sort}
 use Rattle.hv_token.specs.declared.piece.Sort.TheVariants as sort
 use Rattle.hv_token.specs.Characters.{among, spaces, digits, marks, is_space, starts_word, continues_word, is_digit, stays_in_line}
 use Rattle.hv_token.specs.Pieces.{is_white, is_comment, is_word, is_number, is_mark, is_piece, kind_of}
-use Rattle.hv_token.specs.Cutting.{singles, is_single, is_double, front, back, Cut, one_mark, marked, cut, kind_for}
+use Rattle.hv_token.specs.Cutting.{singles, is_single, is_double, front, back, Cut, one_mark, marked, cut, kind_for, is_numeric}
 use Rattle.hv_token.proofs.Shapes.{Shape, space, comment, word, number, single, double, among_all, not_true, clash, single_mark, double_mark, shape_of}
 
 -- ---- runs of characters
@@ -73,6 +73,13 @@ single_starts c e = from_no_start c (among_all no_start singles c refl e)
 
 single_digit : (c : ℕ) → is_single c ≡ true → is_digit c ≡ false
 single_digit c e = not_true (is_digit c) (among_all (λ c. not (is_digit c)) singles c refl e)
+
+start_digit : (c : ℕ) → starts_word c ≡ true → is_digit c ≡ false
+start_digit c e = at (is_digit c) refl
+  where
+    at : (b : Bool) → is_digit c ≡ b → b ≡ false
+    at true d = clash (starts_word c) e (digit_starts c d)
+    at false d = refl
 
 -- the first of two characters of a mark
 double_first : (test : ℕ → Bool) → list_all test (61 ∷ 33 ∷ 60 ∷ 62 ∷ 38 ∷ 124 ∷ 45 ∷ []) ≡ true → (c d : ℕ) → is_double c d ≡ true → test c ≡ true
@@ -194,6 +201,7 @@ pub record IsFront (cs : List ℕ) (s : Sort) (text after : List ℕ) : Type 0 w
   pub piece : is_piece text ≡ true
   pub longest : (x y : List ℕ) → cs ≡ x ++ y → is_piece x ≡ true → length x ≤ length text
   pub kind : kind_of text ≡ kind_for s text
+  pub number : is_number text ≡ is_numeric s
 
 abbrev pub Answer : List ℕ → Cut → Type 0
 Answer cs (Some t) = IsFront cs t.0 t.1 t.2
@@ -278,6 +286,7 @@ space_front c cs e = record {
   piece = white_piece (c ∷ []) e;
   longest = λ x y is p. bound_space c cs e x y is (shape_of x p);
   kind = blank_of (c ∷ []) (no_and (starts_word c) true (space_starts c e)) (no_and (is_digit c) true (space_digit c e)) (space_mark c e);
+  number = no_and (is_digit c) true (space_digit c e);
 }
 
 word_front : (c : ℕ) (cs : List ℕ) → starts_word c ≡ true → IsFront (c ∷ cs) sort.Word (c ∷ front continues_word cs) (back continues_word cs)
@@ -288,6 +297,7 @@ word_front c cs e =
       piece = word_piece (c ∷ front continues_word cs) w;
       longest = λ x y is p. bound_start c cs e x y is (shape_of x p);
       kind = word_of (c ∷ front continues_word cs) w;
+      number = no_and (is_digit c) (list_all is_digit (front continues_word cs)) (start_digit c e);
     }
 
 number_front : (c : ℕ) (cs : List ℕ) → is_digit c ≡ true → IsFront (c ∷ cs) sort.Number (c ∷ front is_digit cs) (back is_digit cs)
@@ -298,6 +308,7 @@ number_front c cs e =
       piece = number_piece (c ∷ front is_digit cs) n;
       longest = λ x y is p. bound_digit c cs e x y is (shape_of x p);
       kind = number_of (c ∷ front is_digit cs) (no_and (starts_word c) (list_all continues_word (front is_digit cs)) (digit_starts c e)) n;
+      number = n;
     }
 
 double_front : (c d : ℕ) (cs : List ℕ) → is_double c d ≡ true → IsFront (c ∷ d ∷ cs) sort.Mark (c ∷ d ∷ []) cs
@@ -306,6 +317,7 @@ double_front c d cs e = record {
   piece = mark_piece (c ∷ d ∷ []) (double_mark c d e);
   longest = λ x y is p. bound_double c d cs e x y is (shape_of x p);
   kind = mark_of (c ∷ d ∷ []) (no_and (starts_word c) (list_all continues_word (d ∷ [])) (double_starts c d e)) (no_and (is_digit c) (list_all is_digit (d ∷ [])) (double_digit c d e)) (double_mark c d e);
+  number = no_and (is_digit c) (list_all is_digit (d ∷ [])) (double_digit c d e);
 }
 
 single_front : (c : ℕ) (cs : List ℕ) → is_single c ≡ true → ((d : ℕ) (more : List ℕ) → cs ≡ d ∷ more → is_double c d ≡ false) → ((more : List ℕ) → c ≡ 47 → cs ≡ 47 ∷ more → ⊥) → IsFront (c ∷ cs) sort.Mark (c ∷ []) cs
@@ -314,6 +326,7 @@ single_front c cs e nd nc = record {
   piece = mark_piece (c ∷ []) (single_mark c e);
   longest = λ x y is p. bound_single c cs e x y nd nc is (shape_of x p);
   kind = mark_of (c ∷ []) (no_and (starts_word c) true (single_starts c e)) (no_and (is_digit c) true (single_digit c e)) (single_mark c e);
+  number = no_and (is_digit c) true (single_digit c e);
 }
 
 slashes_front : (cs : List ℕ) → IsFront (47 ∷ 47 ∷ cs) sort.Blank (47 ∷ 47 ∷ front stays_in_line cs) (back stays_in_line cs)
@@ -322,6 +335,7 @@ slashes_front cs = record {
   piece = comment_piece (47 ∷ 47 ∷ front stays_in_line cs) (all_front stays_in_line cs);
   longest = λ x y is p. bound_comment cs x y is (shape_of x p);
   kind = blank_of (47 ∷ 47 ∷ front stays_in_line cs) (no_and (starts_word 47) (list_all continues_word (47 ∷ front stays_in_line cs)) slash_starts) refl refl;
+  number = refl;
 }
 
 comment_front : (c d : ℕ) (cs : List ℕ) → ((c == 47) && (d == 47)) ≡ true → IsFront (c ∷ d ∷ cs) sort.Blank (c ∷ d ∷ front stays_in_line cs) (back stays_in_line cs)

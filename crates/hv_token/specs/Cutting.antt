@@ -1,7 +1,8 @@
 -- One piece after the other, as the code cuts them.
-use Rattle.std.specs.Prelude.{◌≡◌, ℕ, Bool, true, false, ◌||◌, ◌&&◌, if◌then◌else◌, ◌==◌, List, [], ◌∷◌, ◌++◌, Option, Some, None, pos}
+use Rattle.std.specs.Prelude.{◌≡◌, ◌<◌, ◌≤◌, ℕ, Bool, true, false, ◌||◌, ◌&&◌, if◌then◌else◌, ◌==◌, List, [], ◌∷◌, ◌++◌, Option, Some, None, pos}
 use Rattle.std.specs.Char.{encode_utf8}
 use Rattle.std.specs.Str.{chars, encode_utf8_all}
+use Rattle.hv_tree.specs.declared.token.Token.{Token}
 use Rattle.hv_tree.specs.declared.token.TokenKind.{TokenKind}
 use Rattle.hv_tree.specs.declared.token.TokenKind.TheVariants as kind
 use Rattle.hv_token.specs.declared.piece.Sort.{Sort}
@@ -10,6 +11,7 @@ use Rattle.hv_token.specs.declared.class.Class.{Class}
 use Rattle.hv_token.specs.declared.class.Class.TheVariants.{WordRest, Digit, Line}
 use Rattle.hv_token.specs.Characters.{among, is_space, is_digit, starts_word, continues_word, stays_in_line}
 use Rattle.hv_token.specs.Pieces.{width, value_of, word_kind}
+use Rattle.hv_token.specs.Lexes.{tokens_at, greatest}
 
 -- the marks of one character
 abbrev pub singles : List ℕ
@@ -75,6 +77,7 @@ pub record Begins (text : List ℕ) (c : ℕ) (after : List ℕ) : Type 0 where
 pub record Parts (text : List ℕ) (sort : Sort) (piece after : List ℕ) : Type 0 where
   pub cuts : cut (chars text) ≡ Some (sort, chars piece, chars after)
   pub bytes : text ≡ piece ++ after
+  pub spelled : encode_utf8_all (chars piece) ≡ piece
 
 -- the token that a piece of that sort is
 abbrev pub kind_for : Sort → List ℕ → Option TokenKind
@@ -82,3 +85,19 @@ kind_for Blank text = None
 kind_for Word text = Some (word_kind (encode_utf8_all text))
 kind_for Number text = Some (kind.Number (pos (value_of text)))
 kind_for Mark text = Some (kind.Mark (encode_utf8_all text))
+
+abbrev pub is_numeric : Sort → Bool
+is_numeric Number = true
+is_numeric _ = false
+
+-- the same by the bytes of the piece
+abbrev pub spelled_kind : Sort → List ℕ → Option TokenKind
+spelled_kind Blank bytes = None
+spelled_kind Word bytes = Some (word_kind bytes)
+spelled_kind Number bytes = Some (kind.Number (pos (value_of bytes)))
+spelled_kind Mark bytes = Some (kind.Mark bytes)
+
+-- the token of the piece was added, or its number is too great
+abbrev pub Adds : Sort → List ℕ → ℕ → List Token → List Token → Bool → Type 0
+Adds s piece at old new true = (new ≡ old ++ tokens_at at (spelled_kind s piece)) × (is_numeric s ≡ true → value_of piece ≤ greatest)
+Adds s piece at old new false = (new ≡ old) × (is_numeric s ≡ true) × (greatest < value_of piece)

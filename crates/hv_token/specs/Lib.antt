@@ -4,3 +4,4 @@ pub mod Pieces
 pub mod Lexes
 -- what the functions inside promise each other
 pub mod Cutting
+pub mod Reading

@@ -2,6 +2,9 @@
 #![tactic(auto)]
 
 mod class;
+mod kind;
+mod lexed;
 mod piece;
 
 pub use hv_tree::{Token, TokenKind};
+pub use lexed::{Lexed, lex};

@@ -18,7 +18,7 @@ pub(crate) enum Sort {
 
 // The first character, and what stands behind it.
 #[inline]
-fn first_char(text: &str) -> Option<(char, &str)>
+pub(crate) fn first_char(text: &str) -> Option<(char, &str)>
     ensures { MatchOption result ((text.now ≡ []) × (chars text.now ≡ [])) (λ p. Begins text.now p.0 p.1.now) }
 {
     let mut characters = text.chars();
@@ -87,4 +87,15 @@ fn measured_piece(text: &str) -> Option<(Sort, usize)>
     } else {
         measured_mark(first, rest)
     }
+}
+
+// The longest piece at the front, and what stands behind it.
+pub(crate) fn first_piece(text: &str) -> Option<(Sort, &str, &str)>
+    ensures { MatchOption result (cut (chars text.now) ≡ None) (λ p. Parts text.now p.0 p.1.now p.2.now) }
+{
+    let Some((sort, len)) = measured_piece(text) else {
+        return None;
+    };
+    let (piece, after) = text.split_at(len);
+    Some((sort, piece, after))
 }
