@@ -34,6 +34,7 @@ takes_some text u s piece after e whole =
       boundary = IsCharBoundary-at_seam text (encode_utf8_all piece) (encode_utf8_all after) bytes (after, (both.1, refl));
       parts = record {
         cuts = e ∙ ap (λ p. Some (s, p, after)) first ∙ ap (λ a. Some (s, chars (take (width piece) text), a)) second;
+        utf8 = (after, (both.1, sym back));
         spelled = ap encode_utf8_all (sym first) ∙ sym front;
         bytes = bytes ∙ ap (λ p. p ++ encode_utf8_all after) (sym front) ∙ ap (λ a. take (width piece) text ++ a) (sym back);
       };

@@ -3,10 +3,11 @@ use Rattle.std.proofs.Common.{◌≡◌, ◌≢◌, ℕ, zero, suc, ◌+◌, ◌
 use Rattle.std.specs.Prelude.{nat_lt, if◌then◌else◌, ◌==◌, pos}
 use Rattle.std.specs.Char.{encode_utf8}
 use Rattle.std.specs.List.{list_all}
-use Rattle.std.specs.Str.{IsUtf8, chars, encode_utf8_all}
-use Rattle.std.specs.Str.Lossy.{utf8_valid_len}
+use Rattle.std.specs.Str.{IsUtf8, is_utf8, chars, encode_utf8_all}
+use Rattle.std.specs.Str.Lossy.{utf8_valid_len, valid_len_up_to}
 use Rattle.std.proofs.lemmas.Bool.{and_parts, ltb-true, ltb-false, eqb-true}
-use Rattle.std.proofs.lemmas.Str.{encodes-chars, encode_ascii, chars-nil}
+use Rattle.std.proofs.lemmas.Str.{encodes-chars, encode_ascii, chars-nil, IsUtf8-nil, IsUtf8-from_is_utf8}
+use Rattle.std.proofs.lemmas.List.{nil_from_length}
 use Rattle.hv_tree.specs.declared.token.Token.{Token}
 use Rattle.hv_tree.specs.declared.token.TokenKind.{TokenKind}
 use Rattle.hv_tree.specs.declared.token.TokenKind.TheVariants as kind
@@ -22,7 +23,7 @@ use Rattle.hv_token.specs.Reading.{stop_behind, Reads, IsBehindMark}
 use Rattle.hv_token.proofs.Shapes.{among_all}
 use Rattle.hv_token.proofs.Longest.{IsFront, Answer, cut_right}
 use Rattle.hv_token.proofs.Cuts.{wide}
-use Rattle.hv_token.proofs.Lexing.{Lexing, lexing_start, lexing_step, ended, ended_ill, ended_strange, ended_great}
+use Rattle.hv_token.proofs.Lexing.{Lexing, lexing_start, lexing_step, ended, ended_ill, ended_strange, ended_great, ended_long}
 
 -- ---- the byte order mark
 
@@ -135,3 +136,26 @@ turn_strange text u tokens at rest v l none some = λ bytes e short.
     strange_on bytes (chars text) tokens at (chars rest) (encodes-chars text u ∙ e) short l
     (subst (Answer (chars rest)) none (cut_right (chars rest)))
     (subst (λ b. 0 < length b) (sym (encodes-chars rest v)) some)
+
+-- ---- the well-formed front
+
+front_is_text : (bytes : List ℕ) (n : ℕ) → IsUtf8 (take (valid_len_up_to bytes n) bytes)
+front_is_text bytes zero = IsUtf8-nil
+front_is_text bytes (suc n) = at (is_utf8 (take (suc n) bytes)) refl (front_is_text bytes n)
+  where
+    at : (b : Bool) → is_utf8 (take (suc n) bytes) ≡ b → IsUtf8 (take (valid_len_up_to bytes n) bytes) → IsUtf8 (take (if b then suc n else valid_len_up_to bytes n) bytes)
+    at true e more = IsUtf8-from_is_utf8 (take (suc n) bytes) e
+    at false e more = more
+
+pub read_long : (bytes : List ℕ) → most_bytes < length bytes → Lexes bytes [] (Some (refusal_at L0 0))
+unfolding utf8_valid_len
+read_long bytes long =
+    let front = take (utf8_valid_len bytes) bytes in
+    ended_long bytes (chars front) (encodes-chars front (front_is_text bytes (length bytes))) long
+
+pub empty_text : (rest : List ℕ) → (length rest == 0) ≡ true → chars rest ≡ []
+empty_text rest e = ap chars (nil_from_length rest (eqb-true (length rest) 0 e)) ∙ chars-nil
+
+pub some_text : (rest : List ℕ) → (length rest == 0) ≡ false → 0 < length rest
+some_text [] e = absurd (cc)
+some_text (b ∷ rest) e = omega arith

@@ -1,7 +1,7 @@
 -- One piece after the other, as the code cuts them.
 use Rattle.std.specs.Prelude.{◌≡◌, ◌<◌, ◌≤◌, ℕ, Bool, true, false, ◌||◌, ◌&&◌, if◌then◌else◌, ◌==◌, List, [], ◌∷◌, ◌++◌, Option, Some, None, pos}
 use Rattle.std.specs.Char.{encode_utf8}
-use Rattle.std.specs.Str.{chars, encode_utf8_all}
+use Rattle.std.specs.Str.{IsUtf8, chars, encode_utf8_all}
 use Rattle.hv_tree.specs.declared.token.Token.{Token}
 use Rattle.hv_tree.specs.declared.token.TokenKind.{TokenKind}
 use Rattle.hv_tree.specs.declared.token.TokenKind.TheVariants as kind
@@ -78,6 +78,7 @@ pub record Parts (text : List ℕ) (sort : Sort) (piece after : List ℕ) : Type
   pub cuts : cut (chars text) ≡ Some (sort, chars piece, chars after)
   pub bytes : text ≡ piece ++ after
   pub spelled : encode_utf8_all (chars piece) ≡ piece
+  pub utf8 : IsUtf8 after
 
 -- the token that a piece of that sort is
 abbrev pub kind_for : Sort → List ℕ → Option TokenKind

@@ -5,7 +5,7 @@ ghost use Rattle.hv_tree.specs.declared.token.Token.{Token};
 ghost use Rattle.hv_tree.specs.declared.refusal.Refusal.{Refusal};
 ghost use Rattle.hv_token.specs.Pieces.{width};
 ghost use Rattle.hv_token.specs.Lexes.{Lexes, order_mark, body};
-ghost use Rattle.hv_token.specs.Reading.{Reads, IsBehindMark};
+ghost use Rattle.hv_token.specs.Reading.{stop_behind, Reads, IsBehindMark};
 
 use crate::kind::push_piece;
 use crate::piece::{first_char, first_piece};
@@ -82,6 +82,19 @@ fn lex_text(alloc: Global, text: &str) -> Result<(Items<Token>, Option<Refusal>)
     }
 }
 
+// The stop in the well-formed front, or else where that front ends before the source.
+fn stop_behind(source: &[u8], text: &str, stop: Option<Refusal>) -> Option<Refusal>
+    requires front { text.now ≡ take (utf8_valid_len source.now) source.now }
+    requires short { length source.now < 4294967295 }
+    ensures { result ≡ stop_behind source.now stop }
+{
+    match stop {
+        Some(refusal) => Some(refusal),
+        None if text.len() < source.len() => refused(Rule::L1, text.len()),
+        None => None,
+    }
+}
+
 /// Cuts a source into its longest tokens. It reads each byte a bounded number of times.
 pub fn lex(alloc: Global, source: &[u8]) -> Result<Lexed, NoMemory>
     requires { length source.now < 4294967295 }
@@ -99,9 +112,6 @@ pub fn lex(alloc: Global, source: &[u8]) -> Result<Lexed, NoMemory>
     }
     let text = well_formed_front(source);
     let (tokens, stop) = lex_text(alloc, text)?;
-    let stop = match stop {
-        None if text.len() < source.len() => refused(Rule::L1, text.len()),
-        _ => stop,
-    };
+    let stop = stop_behind(source, text, stop);
     Ok(Lexed { tokens, stop, end })
 }
