@@ -45,14 +45,14 @@ only_one bytes tokens others stop other a b =
     let start : width (order_mark b.characters) ≡ width (order_mark a.characters) = ap (λ cs. width (order_mark cs)) cs in
     let cut = same_cut b.texts a.texts b.rest a.rest b.cut.longest b.cut.ends a.cut.longest a.cut.ends (sym b.cut.whole ∙ ap body cs ∙ a.cut.whole) in
     let first : IsFirst (Violates bytes (width (order_mark a.characters)) a.texts a.rest) other =
-        subst (λ n. IsFirst (Violates bytes n a.texts a.rest) other) start
-        (subst (λ r. IsFirst (Violates bytes (width (order_mark b.characters)) a.texts r) other) cut.1
-        (subst (λ ts. IsFirst (Violates bytes (width (order_mark b.characters)) ts b.rest) other) cut.0 b.first)) in
+    subst (λ n. IsFirst (Violates bytes n a.texts a.rest) other) start
+    (subst (λ r. IsFirst (Violates bytes (width (order_mark b.characters)) a.texts r) other) cut.1
+    (subst (λ ts. IsFirst (Violates bytes (width (order_mark b.characters)) ts b.rest) other) cut.0 b.first)) in
     let stops : other ≡ stop = same_stop bytes (width (order_mark a.characters)) a.texts a.rest other stop first a.first in (
       b.before ∙
-        ap (λ s. filter (begins_before s) (tokens_from (width (order_mark b.characters)) b.texts)) stops ∙
-        ap (λ n. filter (begins_before stop) (tokens_from n b.texts)) start ∙
-        ap (λ ts. filter (begins_before stop) (tokens_from (width (order_mark a.characters)) ts)) cut.0 ∙
-        sym a.before,
+          ap (λ s. filter (begins_before s) (tokens_from (width (order_mark b.characters)) b.texts)) stops ∙
+          ap (λ n. filter (begins_before stop) (tokens_from n b.texts)) start ∙
+          ap (λ ts. filter (begins_before stop) (tokens_from (width (order_mark a.characters)) ts)) cut.0 ∙
+          sym a.before,
       stops,
     )

@@ -15,6 +15,7 @@ use std::alloc::{AllocError as NoMemory, Global};
 use std::str;
 
 const MOST_BYTES: usize = 1_048_576;
+
 const BYTE_ORDER_MARK: char = '\u{feff}';
 
 /// The tokens of a source up to its first lexical refusal.
@@ -56,7 +57,11 @@ fn behind_mark(text: &str) -> &str
     let Some((first, after)) = first_char(text) else {
         return text;
     };
-    if first == BYTE_ORDER_MARK { after } else { text }
+    if first == BYTE_ORDER_MARK {
+        after
+    } else {
+        text
+    }
 }
 
 // The tokens of a text up to the first place where no piece begins or a number is too great.

@@ -16,7 +16,7 @@ pub returns-then-source-gt-MOST_BYTES-clause-only : goal.returns-then-source-gt-
 returns-then-source-gt-MOST_BYTES-clause-only c =
     λ tokens stop other. only_one c.args.source.now c.new-tokens.result tokens c.refused-stop.result stop
     (subst (λ (ts : List Token). Lexes c.args.source.now ts c.refused-stop.result) (sym c.new-tokens.ensures)
-      (subst (λ (r : Option Refusal). Lexes c.args.source.now [] r) (sym c.refused-stop.ensures) (read_long c.args.source.now c.if-source-gt-MOST_BYTES.true)))
+    (subst (λ (r : Option Refusal). Lexes c.args.source.now [] r) (sym c.refused-stop.ensures) (read_long c.args.source.now c.if-source-gt-MOST_BYTES.true)))
     other
 
 pub returns-clause-lexes : goal.returns-clause-lexes
@@ -28,5 +28,5 @@ pub returns-clause-only : goal.returns-clause-only
 returns-clause-only c =
     λ tokens stop other. only_one c.args.source.now c.in_ok-tokens.tokens tokens c.stop_behind-stop.result stop
     (subst (λ (r : Option Refusal). Lexes c.args.source.now c.in_ok-tokens.tokens r) (sym c.stop_behind-stop.ensures)
-      (c.in_ok-tokens.ensures c.args.source.now c.well_formed_front-text.ensures c.if-source-gt-MOST_BYTES.false))
+    (c.in_ok-tokens.ensures c.args.source.now c.well_formed_front-text.ensures c.if-source-gt-MOST_BYTES.false))
     other
