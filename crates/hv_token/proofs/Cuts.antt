@@ -28,11 +28,14 @@ width_append x y = ap length (encodes-append x y) ∙ length-append (encode_utf8
 pub width_concat : (texts more : List (List ℕ)) → width (concat (texts ++ more)) ≡ width (concat texts) + width (concat more)
 width_concat texts more = ap width (concat-append texts more) ∙ width_append (concat texts) (concat more)
 
-pub wide : (text : List ℕ) → is_piece text ≡ true → 0 < width text
-wide [] p = absurd (not_empty [] p refl)
-wide (c ∷ cs) p =
+pub wide_some : (c : ℕ) (cs : List ℕ) → 0 < width (c ∷ cs)
+wide_some c cs =
     let more : width (c ∷ cs) ≡ length (encode_utf8 c) + width cs = length-append (encode_utf8 c) (encode_utf8_all cs) in
     omega (arith, more, length-encode c, (len_utf8_bounds c).0)
+
+pub wide : (text : List ℕ) → is_piece text ≡ true → 0 < width text
+wide [] p = absurd (not_empty [] p refl)
+wide (c ∷ cs) p = wide_some c cs
 
 -- ---- every text has a cut
 
@@ -41,7 +44,7 @@ pub record HasCut (cs : List ℕ) : Type 0 where
   pub rest : List ℕ
   pub is : IsCut cs texts rest
 
-shorter : (cs text after : List ℕ) (n : ℕ) → is_piece text ≡ true → cs ≡ text ++ after → length cs ≤ suc n → length after ≤ n
+pub shorter : (cs text after : List ℕ) (n : ℕ) → is_piece text ≡ true → cs ≡ text ++ after → length cs ≤ suc n → length after ≤ n
 shorter cs [] after n p e le = absurd (not_empty [] p refl)
 shorter cs (c ∷ text) after n p e le = omega (arith, ap length e, length-append text after)
 

@@ -8,3 +8,4 @@ pub mod Only
 pub mod Taking
 pub mod Digits
 pub mod Turns
+pub mod Total

@@ -147,11 +147,14 @@ front_is_text bytes (suc n) = at (is_utf8 (take (suc n) bytes)) refl (front_is_t
     at true e more = IsUtf8-from_is_utf8 (take (suc n) bytes) e
     at false e more = more
 
-pub read_long : (bytes : List ℕ) → most_bytes < length bytes → Lexes bytes [] (Some (refusal_at L0 0))
+pub valid_is_text : (bytes : List ℕ) → IsUtf8 (take (utf8_valid_len bytes) bytes)
 unfolding utf8_valid_len
+valid_is_text bytes = front_is_text bytes (length bytes)
+
+pub read_long : (bytes : List ℕ) → most_bytes < length bytes → Lexes bytes [] (Some (refusal_at L0 0))
 read_long bytes long =
     let front = take (utf8_valid_len bytes) bytes in
-    ended_long bytes (chars front) (encodes-chars front (front_is_text bytes (length bytes))) long
+    ended_long bytes (chars front) (encodes-chars front (valid_is_text bytes)) long
 
 pub empty_text : (rest : List ℕ) → (length rest == 0) ≡ true → chars rest ≡ []
 empty_text rest e = ap chars (nil_from_length rest (eqb-true (length rest) 0 e)) ∙ chars-nil

@@ -101,9 +101,11 @@ fn stop_behind(source: &[u8], text: &str, stop: Option<Refusal>) -> Option<Refus
 }
 
 /// Cuts a source into its longest tokens. It reads each byte a bounded number of times.
+#[tactic(auto, using(crate::proofs::Total::has_tokens))]
 pub fn lex(alloc: Global, source: &[u8]) -> Result<Lexed, NoMemory>
     requires { length source.now < 4294967295 }
     ensures lexes { IfOk result (λ l. Lexes source.now l.tokens l.stop) }
+    ensures some { (tokens : List Token) × (stop : Option Refusal) × Lexes source.now tokens stop }
     ensures only { IfOk result (λ l. (tokens : List Token) (stop : Option Refusal) → Lexes source.now tokens stop → (tokens ≡ l.tokens) × (stop ≡ l.stop)) }
     ensures end { IfOk result (λ l. l.end.start ≡ length source.now) }
 {
