@@ -1,5 +1,5 @@
 -- The value of digits from the left.
-use Rattle.std.proofs.Common.{◌≡◌, ◌<◌, ◌≤◌, ◌+◌, ◌-◌, ◌*◌, ◌∙◌, ℕ, suc, List, [], ◌∷◌, refl, ap, length, drop, get_or, subst, arith, drop-cons}
+use Rattle.std.proofs.Common.{◌<◌, ◌≤◌, ◌+◌, ◌-◌, ◌*◌, ℕ, suc, List, [], ◌∷◌, ap, length, drop, get_or, arith, drop-cons}
 use Rattle.hv_token.specs.Pieces.{value_after}
 
 pub value_grows : (n : ℕ) (digits : List ℕ) → n ≤ value_after n digits

@@ -1,7 +1,7 @@
 -- The tokens so far, and each way in which the reading ends.
-use Rattle.std.proofs.Common.{◌≡◌, ◌⊎◌, inl, inr, ℕ, zero, suc, ◌+◌, ◌-◌, ◌<◌, ◌≤◌, Bool, true, false, cond, List, [], ◌∷◌, ◌++◌, length, take, Option, Some, None, refl, sym, ◌∙◌, ap, subst, arith, length-append, append_assoc, append-nil}
+use Rattle.std.proofs.Common.{◌≡◌, ◌⊎◌, inl, inr, ℕ, ◌+◌, ◌<◌, ◌≤◌, Bool, true, false, List, [], ◌∷◌, ◌++◌, length, take, Some, None, refl, sym, ◌∙◌, ap, subst, arith, append_assoc, append-nil}
 use Rattle.std.specs.List.{concat, filter}
-use Rattle.std.specs.Prelude.{nat_lt, if◌then◌else◌, ◌==◌}
+use Rattle.std.specs.Prelude.{if◌then◌else◌, ◌==◌}
 use Rattle.std.specs.Str.{encode_utf8_all}
 use Rattle.std.specs.Str.Lossy.{utf8_valid_len}
 use Rattle.std.proofs.lemmas.Str.{utf8_valid_len_le}
@@ -10,15 +10,14 @@ use Rattle.std.proofs.lemmas.List.Folds.{concat-append}
 use Rattle.std.proofs.lemmas.List.Elements.{filter-append}
 use Rattle.std.proofs.Math.Nat.{eq-or-lt_of_le}
 use Rattle.hv_tree.specs.declared.token.Token.{Token}
-use Rattle.hv_tree.specs.declared.token.TokenKind.{TokenKind}
 use Rattle.hv_tree.specs.declared.refusal.Refusal.{Refusal}
 use Rattle.hv_tree.specs.declared.refusal.Rule.{Rule}
 use Rattle.hv_tree.specs.declared.refusal.Rule.TheVariants.{L0, L1, L2, L3}
 use Rattle.hv_token.specs.declared.piece.Sort.{Sort}
 use Rattle.hv_token.specs.Pieces.{is_piece, is_number, value_of, kind_of, width}
-use Rattle.hv_token.specs.Lexes.{IsLongest, AreLongest, IsCut, order_mark, body, tokens_at, tokens_from, most_bytes, greatest, refusal_at, Violates, too_long, ill_formed, no_piece, too_great, rank, IsUpTo, IsFirst, begins_before, Lexes}
+use Rattle.hv_token.specs.Lexes.{IsLongest, AreLongest, IsCut, order_mark, body, tokens_at, tokens_from, most_bytes, greatest, refusal_at, Violates, too_long, ill_formed, no_piece, too_great, rank, IsUpTo, begins_before, Lexes}
 use Rattle.hv_token.proofs.Longest.{IsFront}
-use Rattle.hv_token.proofs.Cuts.{front_longest, longest_append, width_append, width_concat, wide, HasCut, has_cut, more_cut}
+use Rattle.hv_token.proofs.Cuts.{front_longest, longest_append, width_append, width_concat, wide, has_cut}
 use Rattle.hv_token.proofs.Stops.{tokens_append, kept, left_out, all_kept, AllFit, fit_append, fits_not, Stands, inside, behind, stands}
 
 pub marked_whole : (cs : List ℕ) → cs ≡ order_mark cs ++ body cs

@@ -1,16 +1,14 @@
 -- The piece that is cut is the longest.
-use Rattle.std.proofs.Common.{◌≡◌, ℕ, zero, suc, ◌+◌, ◌-◌, ◌<◌, ◌≤◌, Bool, true, false, List, [], ◌∷◌, ◌++◌, length, Option, Some, None, refl, sym, ◌∙◌, ap, subst, arith, eq-eqb}
-use Rattle.std.specs.Prelude.{if◌then◌else◌, ◌||◌, ◌&&◌, ◌==◌, not, nat_le, nat_lt}
+use Rattle.std.proofs.Common.{◌≡◌, ℕ, suc, ◌<◌, ◌≤◌, Bool, true, false, List, [], ◌∷◌, ◌++◌, length, Some, None, refl, sym, ◌∙◌, ap, subst, arith, eq-eqb}
+use Rattle.std.specs.Prelude.{if◌then◌else◌, ◌||◌, ◌&&◌, ◌==◌, not, nat_lt}
 use Rattle.std.specs.Char.{is_ascii_alphabetic}
 use Rattle.std.specs.List.{list_all}
 use Rattle.std.proofs.lemmas.Bool.{eqb-true, and_parts, and_from}
 use borrow.Author.Tests.{ltb-true}
-use Rattle.unicode_ident.specs.Ident.{is_xid_start, is_xid_continue}
 use Rattle.unicode_ident.proofs.IdentLemmas.{is_xid_start-ascii}
-use Rattle.hv_tree.specs.declared.token.TokenKind.{TokenKind}
 use Rattle.hv_token.specs.declared.piece.Sort.{Sort}
 use Rattle.hv_token.specs.declared.piece.Sort.TheVariants as sort
-use Rattle.hv_token.specs.Characters.{among, spaces, digits, marks, is_space, starts_word, continues_word, is_digit, stays_in_line}
+use Rattle.hv_token.specs.Characters.{among, spaces, digits, is_space, starts_word, continues_word, is_digit, stays_in_line}
 use Rattle.hv_token.specs.Pieces.{is_white, is_comment, is_word, is_number, is_mark, is_piece, kind_of}
 use Rattle.hv_token.specs.Cutting.{singles, is_single, is_double, front, back, Cut, one_mark, marked, cut, kind_for, is_numeric}
 use Rattle.hv_token.proofs.Shapes.{Shape, space, comment, word, number, single, double, among_all, not_true, clash, single_mark, double_mark, shape_of}

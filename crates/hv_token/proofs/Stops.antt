@@ -1,25 +1,14 @@
 -- The tokens before a stop, and the first violation.
-use Rattle.std.proofs.Common.{◌≡◌, ◌⊎◌, inl, inr, ℕ, zero, suc, ◌+◌, ◌-◌, ◌<◌, ◌≤◌, Bool, true, false, cond, List, [], ◌∷◌, ◌++◌, length, take, Option, Some, None, refl, sym, ◌∙◌, ap, subst, arith, length-append, append_assoc, append-nil}
+use Rattle.std.proofs.Common.{◌≡◌, ℕ, ◌+◌, ◌<◌, ◌≤◌, true, cond, List, [], ◌∷◌, ◌++◌, Option, Some, None, refl, sym, ◌∙◌, ap, subst, arith, append_assoc}
 use Rattle.std.specs.List.{concat, filter}
-use Rattle.std.specs.Prelude.{nat_lt, if◌then◌else◌, ◌==◌}
-use Rattle.std.specs.Str.{encode_utf8_all}
-use Rattle.std.specs.Str.Lossy.{utf8_valid_len}
-use Rattle.std.proofs.lemmas.Str.{utf8_valid_len_le}
 use Rattle.std.proofs.lemmas.Bool.{lt-ltb, le-ltb}
-use Rattle.std.proofs.lemmas.List.{length-take-le}
 use Rattle.std.proofs.lemmas.List.Elements.{filter-append}
-use Rattle.std.proofs.Math.Nat.{eq-or-lt_of_le}
 use Rattle.hv_tree.specs.declared.token.Token.{Token}
 use Rattle.hv_tree.specs.declared.token.TokenKind.{TokenKind}
-use Rattle.hv_tree.specs.declared.refusal.Refusal.{Refusal}
 use Rattle.hv_tree.specs.declared.refusal.Rule.{Rule}
-use Rattle.hv_tree.specs.declared.refusal.Rule.TheVariants.{L0, L1, L2, L3}
-use Rattle.hv_token.specs.declared.piece.Sort.{Sort}
-use Rattle.hv_token.specs.declared.piece.Sort.TheVariants as sort
-use Rattle.hv_token.specs.Pieces.{is_piece, is_number, value_of, kind_of, width}
-use Rattle.hv_token.specs.Lexes.{IsLongest, AreLongest, IsCut, order_mark, body, tokens_at, tokens_from, most_bytes, greatest, refusal_at, Violates, too_long, ill_formed, no_piece, too_great, rank, IsUpTo, IsFirst, begins_before, Lexes}
-use Rattle.hv_token.proofs.Longest.{IsFront}
-use Rattle.hv_token.proofs.Cuts.{front_longest, longest_append, width_append, width_concat, wide, HasCut, has_cut}
+use Rattle.hv_token.specs.Pieces.{is_number, value_of, kind_of, width}
+use Rattle.hv_token.specs.Lexes.{AreLongest, tokens_at, tokens_from, greatest, refusal_at, begins_before}
+use Rattle.hv_token.proofs.Cuts.{width_append, wide}
 
 -- ---- tokens
 

@@ -1,5 +1,5 @@
 -- Every source has tokens and a stop.
-use Rattle.std.proofs.Common.{◌≡◌, ℕ, zero, suc, ◌+◌, ◌<◌, ◌≤◌, Bool, true, false, List, [], ◌∷◌, ◌++◌, length, take, Option, Some, None, refl, sym, ◌∙◌, ap, subst, arith}
+use Rattle.std.proofs.Common.{◌≡◌, ℕ, zero, suc, ◌≤◌, Bool, true, false, List, [], ◌∷◌, length, take, Option, Some, None, refl, arith}
 use Rattle.std.specs.Prelude.{nat_lt}
 use Rattle.std.specs.Str.{chars, encode_utf8_all}
 use Rattle.std.specs.Str.Lossy.{utf8_valid_len}
@@ -8,7 +8,7 @@ use Rattle.std.proofs.lemmas.Str.{encodes-chars}
 use Rattle.hv_tree.specs.declared.token.Token.{Token}
 use Rattle.hv_tree.specs.declared.refusal.Refusal.{Refusal}
 use Rattle.hv_token.specs.declared.piece.Sort.{Sort}
-use Rattle.hv_token.specs.Pieces.{is_number, value_of, kind_of, width}
+use Rattle.hv_token.specs.Pieces.{is_number, value_of, width}
 use Rattle.hv_token.specs.Lexes.{order_mark, body, most_bytes, greatest, Lexes}
 use Rattle.hv_token.specs.Cutting.{Cut, cut}
 use Rattle.hv_token.proofs.Shapes.{clash}

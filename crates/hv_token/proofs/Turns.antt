@@ -1,5 +1,5 @@
 -- One turn of the reading, and its ends, by the bytes of the pieces.
-use Rattle.std.proofs.Common.{◌≡◌, ◌≢◌, ℕ, zero, suc, ◌+◌, ◌-◌, ◌<◌, ◌≤◌, Bool, true, false, ◌&&◌, cond, List, [], ◌∷◌, ◌++◌, length, take, drop, Option, Some, None, refl, sym, ◌∙◌, ap, subst, arith, length-append, eq-eqb}
+use Rattle.std.proofs.Common.{◌≡◌, ◌≢◌, ℕ, zero, suc, ◌+◌, ◌-◌, ◌<◌, ◌≤◌, Bool, true, false, List, [], ◌∷◌, ◌++◌, length, take, Some, None, refl, sym, ◌∙◌, ap, subst, arith, length-append, eq-eqb}
 use Rattle.std.specs.Prelude.{nat_lt, if◌then◌else◌, ◌==◌, pos}
 use Rattle.std.specs.Char.{encode_utf8}
 use Rattle.std.specs.List.{list_all}
@@ -9,17 +9,15 @@ use Rattle.std.proofs.lemmas.Bool.{and_parts, ltb-true, ltb-false, eqb-true}
 use Rattle.std.proofs.lemmas.Str.{encodes-chars, encode_ascii, chars-nil, IsUtf8-nil, IsUtf8-from_is_utf8}
 use Rattle.std.proofs.lemmas.List.{nil_from_length}
 use Rattle.hv_tree.specs.declared.token.Token.{Token}
-use Rattle.hv_tree.specs.declared.token.TokenKind.{TokenKind}
 use Rattle.hv_tree.specs.declared.token.TokenKind.TheVariants as kind
-use Rattle.hv_tree.specs.declared.refusal.Refusal.{Refusal}
 use Rattle.hv_tree.specs.declared.refusal.Rule.TheVariants.{L0, L1, L2, L3}
 use Rattle.hv_token.specs.declared.piece.Sort.{Sort}
 use Rattle.hv_token.specs.declared.piece.Sort.TheVariants.{Blank, Word, Number, Mark}
 use Rattle.hv_token.specs.Characters.{digits, is_digit}
 use Rattle.hv_token.specs.Pieces.{is_piece, is_number, value_of, word_kind, kind_of, width}
 use Rattle.hv_token.specs.Lexes.{order_mark, body, tokens_at, greatest, most_bytes, refusal_at, Lexes}
-use Rattle.hv_token.specs.Cutting.{Cut, cut, Begins, Parts, kind_for, is_numeric, spelled_kind, Adds}
-use Rattle.hv_token.specs.Reading.{stop_behind, Reads, IsBehindMark}
+use Rattle.hv_token.specs.Cutting.{cut, Begins, Parts, kind_for, is_numeric, spelled_kind, Adds}
+use Rattle.hv_token.specs.Reading.{Reads, IsBehindMark}
 use Rattle.hv_token.proofs.Shapes.{among_all}
 use Rattle.hv_token.proofs.Longest.{IsFront, Answer, cut_right}
 use Rattle.hv_token.proofs.Cuts.{wide}

@@ -1,5 +1,5 @@
 -- The tokens of a source and its first lexical refusal. Whole cuts of the source are compared; the code reads one character after the other.
-use Rattle.std.specs.Prelude.{◌≡◌, ◌⊎◌, ℕ, ◌+◌, ◌<◌, ◌≤◌, nat_lt, if◌then◌else◌, Bool, true, false, ◌==◌, List, [], ◌∷◌, ◌++◌, length, take, Option, Some, None}
+use Rattle.std.specs.Prelude.{◌≡◌, ◌⊎◌, ℕ, ◌+◌, ◌<◌, ◌≤◌, nat_lt, if◌then◌else◌, Bool, true, ◌==◌, List, [], ◌∷◌, ◌++◌, length, take, Option, Some, None}
 use Rattle.std.specs.List.{concat, filter}
 use Rattle.std.specs.Str.{encode_utf8_all}
 use Rattle.std.specs.Str.Lossy.{utf8_valid_len}

@@ -1,5 +1,5 @@
 // The classes of characters.
-ghost use Rattle.std.specs.Prelude.{◌≡◌, ◌==◌};
+ghost use Rattle.std.specs.Prelude.{◌≡◌};
 ghost use Rattle.hv_token.specs.Characters as spec;
 ghost use Rattle.hv_token.specs.Cutting.{is_single, is_double, has};
 

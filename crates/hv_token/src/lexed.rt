@@ -1,10 +1,8 @@
-ghost use Rattle.std.specs.Prelude.{◌≡◌, ◌<◌, ◌≤◌, ◌+◌, List, Option, IfOk, length, take, drop};
-ghost use Rattle.std.specs.Str.{chars};
+ghost use Rattle.std.specs.Prelude.{◌≡◌, ◌<◌, List, Option, IfOk, length, take};
 ghost use Rattle.std.specs.Str.Lossy.{utf8_valid_len};
 ghost use Rattle.hv_tree.specs.declared.token.Token.{Token};
 ghost use Rattle.hv_tree.specs.declared.refusal.Refusal.{Refusal};
-ghost use Rattle.hv_token.specs.Pieces.{width};
-ghost use Rattle.hv_token.specs.Lexes.{Lexes, order_mark, body};
+ghost use Rattle.hv_token.specs.Lexes.{Lexes};
 ghost use Rattle.hv_token.specs.Reading.{stop_behind, Reads, IsBehindMark};
 
 use crate::kind::push_piece;

@@ -1,7 +1,6 @@
 // The longest piece at the front of a text.
-ghost use Rattle.std.specs.Prelude.{◌≡◌, ◌≤◌, ℕ, List, [], length, MatchOption, IfSome};
+ghost use Rattle.std.specs.Prelude.{◌≡◌, ◌≤◌, ℕ, List, [], length, MatchOption};
 ghost use Rattle.std.specs.Str.{chars};
-ghost use Rattle.std.specs.Option.{option_map};
 ghost use Rattle.hv_token.specs.Pieces.{width};
 ghost use Rattle.hv_token.specs.Cutting.{front, has, cut, one_mark, marked, measured, Begins, Parts};
 

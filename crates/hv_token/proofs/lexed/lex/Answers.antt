@@ -1,5 +1,4 @@
-use Rattle.std.proofs.Common.{◌≡◌, [], Some, List, Option, sym, subst, ◌∙◌, ap, arith}
-use Rattle.std.specs.Str.{chars}
+use Rattle.std.proofs.Common.{[], List, Option, sym, subst}
 use Rattle.hv_tree.specs.declared.token.Token.{Token}
 use Rattle.hv_tree.specs.declared.refusal.Refusal.{Refusal}
 use Rattle.hv_token.specs.Lexes.{Lexes}

@@ -1,5 +1,4 @@
-use Rattle.std.proofs.Common.{◌≡◌, ◌<◌, ℕ, Bool, Option, Some, length, ap, sym, subst, ◌∙◌, arith}
-use Rattle.std.specs.Str.{chars}
+use Rattle.std.proofs.Common.{Bool, Option, sym, subst, ◌∙◌, arith}
 use Rattle.hv_tree.specs.declared.refusal.Refusal.{Refusal}
 use Rattle.hv_token.specs.Cutting.{Adds}
 use Rattle.hv_token.specs.Reading.{Reads}
