@@ -1,5 +1,5 @@
 -- Lists read by `get_elem?`.
-use Rattle.std.proofs.Common.{◌≡◌, ℕ, zero, suc, ◌+◌, ◌<◌, ◌⊎◌, inl, inr, List, [], ◌∷◌, ◌++◌, length, get_or, set, sym, refl, ap, ◌∙◌, arith}
+use Rattle.std.proofs.Common.{◌≡◌, ℕ, zero, suc, ◌+◌, ◌<◌, ◌⊎◌, inl, inr, List, [], ◌∷◌, ◌++◌, map, length, get_or, set, sym, refl, ap, ◌∙◌, arith}
 use mathlib.Core.Option.{some, some-injective, some-ne-none}
 use lib.ListN.{get_elem?}
 
@@ -23,3 +23,8 @@ at_end (x ∷ xs) a b (suc j) e = elim (at_end xs a b j e) [ inl h ↦ inl h | i
 pub read_only : (l : List ℕ) → set l 0 (get_or l 0 0) ≡ l
 read_only [] = refl
 read_only (x ∷ xs) = refl
+
+-- one value more at the end of a list of values
+pub map_snoc : {A : Type 0} (f : A → ℕ) (xs : List A) (x : A) (ns : List ℕ) → map f xs ≡ ns → map f (xs ++ x ∷ []) ≡ ns ++ f x ∷ []
+map_snoc f [] x ns e = ap (λ l. l ++ f x ∷ []) e
+map_snoc f (y ∷ ys) x ns e = sym (ap (λ l. f y ∷ l) (sym (map_snoc f ys x (map f ys) refl))) ∙ ap (λ l. l ++ f x ∷ []) e

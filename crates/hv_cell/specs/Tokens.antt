@@ -41,12 +41,15 @@ pub record Watching (K : Type 0) : Type 0 where
   pub looks : ℕ
 
 module _ {K : Type 0} where
+  abbrev pub home_at : TableId → K → Home K
+  home_at z k = record { table = z; kin = Some k }
+
   -- where the rights to these cells belong, and where their watches do
   abbrev pub home_of : Made K → Home K
-  home_of m = record { table = m.cells; kin = Some m.kin }
+  home_of m = home_at m.cells m.kin
 
   abbrev pub stop_home_of : Made K → Home K
-  stop_home_of m = record { table = m.stop; kin = Some m.kin }
+  stop_home_of m = home_at m.stop m.kin
 
 abbrev pub no_table : TableId
 no_table = record { words = 0; slots = 0; views_name = 0; atom = 0; block = 0; offset = 0; slot_names = [] }
