@@ -1,3 +1,4 @@
+// The cells and their calls.
 ghost use Rattle.std.specs.Prelude.{◌≡◌, ◌*◌, ◌+◌, ◌<◌, [], true, Some, All, IfOk, length, map};
 ghost use Rattle.hv_cell.specs.Tokens.{Made, home_of, stop_home_of};
 ghost use Rattle.hv_cell.specs.Reasons.{no_reason, only, both, has, Within, answer_of};
@@ -67,7 +68,7 @@ impl<P: Joined> Cells<P> {
         ensures kin { IfOk result (λ r. r.0.kin ≡ kin) }
         ensures each { IfOk result (λ r. map (λ f. f.cell) r.1.items ≡ numbers_below cells) }
         ensures cells { IfOk result (λ r. All (λ f. f.home ≡ home_of r.0) r.1.items) }
-        ensures count { IfOk result (λ r. length r.2.items ≡ workers) }
+        ensures count { IfOk result (λ r. (length r.1.items ≡ cells) × (length r.2.items ≡ workers)) }
         ensures watches { IfOk result (λ r. All (λ w. w ≡ record { home = stop_home_of r.0; seen = no_reason; asked = no_reason; looks = 0 }) r.2.items) }
     {
         let (stop, watches) = make_stop(alloc, workers, &kin)?;

@@ -1,3 +1,4 @@
+// What meets in a cell.
 ghost use Rattle.std.specs.Prelude.{List, ℕ};
 ghost use Rattle.hv_cell.specs.Tokens.{Home};
 

@@ -87,6 +87,7 @@ pub(crate) fn make_cells<P: Joined>(
     ensures sized { IfOk result (λ r. (r.0.shared.table_id.words ≡ cells) × (r.0.shared.table_id.slots ≡ 2 * cells)) }
     ensures kin { IfOk result (λ r. r.0.shared.key ≡ kin.now) }
     ensures each { IfOk result (λ r. map (λ f. f.cell) r.1.items ≡ numbers_below cells) }
+    ensures count { IfOk result (λ r. length r.1.items ≡ cells) }
     ensures own { IfOk result (λ r. All (λ f. f.home ≡ record { table = r.0.shared.table_id; kin = Some kin.now }) r.1.items) }
 {
     let free = Vec::with_capacity(alloc, cells as usize)?;
@@ -126,6 +127,7 @@ fn seat_cells<P: Joined>(
     requires maker { maker.me ≡ (view Maker 0 [] grid.now.key maker.table_id, []) }
     requires room { (free.items ≡ []) × (cells ≤ vec_capacity free) }
     ensures each { map (λ f. f.cell) result.items ≡ numbers_below cells }
+    ensures count { length result.items ≡ cells }
     ensures own { All (λ f. f.home ≡ record { table = grid.now.table_id; kin = Some grid.now.key }) result.items }
 {
     for cell in 0..cells {

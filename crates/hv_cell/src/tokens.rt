@@ -1,6 +1,5 @@
 // The rights to a cell. Each is used once, so none is `Drop`: a call takes it, or `abandon`. A
 // right is its cell's number, and has no other bytes.
-ghost use Rattle.std.specs.Prelude.{◌≡◌};
 
 use crate::cell_view::View;
 use atomic_table::Badge;
@@ -83,6 +82,14 @@ impl<K> FreeCell<K> {
     /// Gives the cell up: nobody can use it any more.
     pub fn abandon(self) {
         let FreeCell { cell: _, badge: _ } = self;
+    }
+
+    /// Gives these cells up.
+    pub fn abandon_all(mut cells: Vec<FreeCell<K>>) {
+        while let Some(cell) = cells.pop() {
+            cell.abandon();
+        }
+        cells.destroy_empty();
     }
 }
 

@@ -1,3 +1,5 @@
+// A worker's token for the stop word.
+
 use crate::stop_view::StopView;
 use atomic_table::Seat;
 use std::marker::Model;
