@@ -1,21 +1,20 @@
 -- The steps by which a party comes to its cell keep the rule of the cell table.
-use Rattle.std.proofs.Common.{◌≡◌, ℕ, ◌+◌, ◌*◌, ◌<◌, ◌≤◌, ◌≢◌, ◌⊎◌, inl, inr, Bool, true, false, List, [], ◌∷◌, length, get_or, set, sym, refl, ap, ◌∙◌, subst, ⊎_elim, arith, length-set, get_or-set_same, get_or-set_other}
+use Rattle.std.proofs.Common.{◌≡◌, ℕ, ◌*◌, ◌<◌, ◌⊎◌, inl, inr, Bool, true, false, List, [], ◌∷◌, length, get_or, set, sym, refl, ap, ◌∙◌, subst, ⊎_elim, arith, length-set, get_or-set_same, get_or-set_other}
 use Rattle.std.specs.Prelude.{not}
 use lib.Bits.{bit_or}
 use mathlib.Core.Option as maybe
 use mathlib.Core.Option.{none, some, some-injective}
 use lib.ListN.{get_elem?}
-use Rattle.atomic_table.specs.Table.{State, Me, Act, Valid, stepped, carried_after, keeps, takes, gives, chain, Allows}
+use Rattle.atomic_table.specs.Table.{State, Me, Act, Valid, stepped, carried_after, takes, gives, chain, Allows}
 use Rattle.atomic_table.specs.Seated.{TableId}
 use Rattle.atomic_table.proofs.Lists.{set_here, set_else}
-use Rattle.hv_cell.specs.declared.cell_view.Role.{Role}
 use Rattle.hv_cell.specs.declared.cell_view.Role.TheVariants.{Free, Party, Claim}
 use Rattle.hv_cell.specs.declared.cell_view.View.{View}
 use Rattle.hv_cell.specs.CellRule.{slot_of, bit_of, Coming, coming, Row, unmade, free, paired, half, claimed, view, spent, slot_of_coming, CellOk, Comes, Seated, HasParty, Kept}
 use Rattle.hv_cell.specs.CellPlays.{took, came, reset}
 use Rattle.hv_cell.proofs.Lists.{below, read_only}
-use Rattle.hv_cell.proofs.Sides.{put, put_here, set_side, side_here, side_else, both_sides, not_not, other_side, slots_apart, sides_apart, or_first, or_last}
-use Rattle.hv_cell.proofs.Moves.{Stays, moves_one}
+use Rattle.hv_cell.proofs.Sides.{put_here, set_side, side_here, side_else, both_sides, not_not, other_side, slots_apart, sides_apart, or_first, or_last}
+use Rattle.hv_cell.proofs.Moves.{moves_one}
 
 module _ {X K : Type 0} (nothing : X) (Put : Bool → List ℕ → K → TableId → X → Type 0) where
   module _ (k : K) where

@@ -1,20 +1,18 @@
 -- The steps that make, pair and unpair cells keep the rule of the cell table.
-use Rattle.std.proofs.Common.{◌≡◌, ℕ, zero, suc, ◌+◌, ◌*◌, ◌<◌, ◌≤◌, ◌≢◌, ◌⊎◌, inl, inr, Bool, true, false, List, [], ◌∷◌, ◌++◌, map, replicate, length, get_or, set, sym, refl, ap, ◌∙◌, subst, ⊎_elim, arith, lt_of_not-le}
-use Rattle.std.specs.Prelude.{not}
-use mathlib.Core.Option as maybe
-use mathlib.Core.Option.{none, some, some-injective}
+use Rattle.std.proofs.Common.{◌≡◌, ℕ, zero, suc, ◌+◌, ◌*◌, ◌<◌, ◌≢◌, ◌⊎◌, inl, inr, Bool, true, false, List, [], ◌∷◌, ◌++◌, map, replicate, length, get_or, set, sym, refl, ap, ◌∙◌, subst, ⊎_elim, arith, lt_of_not-le}
+use mathlib.Core.Option.{some, some-injective}
 use lib.ListN.{get_elem?, length-map, length-replicate}
 use Rattle.atomic_table.specs.Table.{State, Me, keeps, Allows, Splits, Joins, opening}
 use Rattle.atomic_table.specs.Seated.{TableId}
 use Rattle.atomic_table.proofs.Lists.{at_set, set_here, set_else, at_longer, at_last}
-use Rattle.hv_cell.specs.declared.cell_view.Role.TheVariants.{Fresh, Maker, Free, Party}
+use Rattle.hv_cell.specs.declared.cell_view.Role.TheVariants.{Maker, Free, Party}
 use Rattle.hv_cell.specs.declared.cell_view.View.{View}
 use Rattle.hv_cell.specs.Tokens.{no_table}
 use Rattle.hv_cell.specs.CellRule.{slot_of, Coming, coming, Row, unmade, free, paired, half, claimed, view, fresh, spent, slot_of_coming, CellOk, Comes, HasParty, Fits, Kept}
 use Rattle.hv_cell.specs.CellPlays.{named, maker_left, maker_right, party_of, freed}
 use Rattle.hv_cell.proofs.Lists.{below, alone, at_end, read_only}
 use Rattle.hv_cell.proofs.Sides.{put, put_here, both_sides, slot_near}
-use Rattle.hv_cell.proofs.Moves.{Stays, moves}
+use Rattle.hv_cell.proofs.Moves.{moves}
 
 blank : {A : Type 0} (a : A) (n i : ℕ) → i < n → get_elem? (map some (replicate {A = A} n a)) i ≡ some (some a)
 blank a zero i near = absurd (omega arith)

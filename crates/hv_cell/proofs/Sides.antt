@@ -1,5 +1,5 @@
 -- The two sides of a cell, and the rows of the cells changed at one cell.
-use Rattle.std.proofs.Common.{◌≡◌, ℕ, ◌+◌, ◌*◌, ◌<◌, ◌≢◌, Bool, true, false, sym, refl, subst, arith}
+use Rattle.std.proofs.Common.{◌≡◌, ℕ, ◌*◌, ◌<◌, ◌≢◌, Bool, true, false, sym, refl, subst, arith}
 use Rattle.std.specs.Prelude.{not}
 use lib.Bits.{bit_or}
 use native.Mathlib.Decide.{ℕ_discrete}

@@ -1,5 +1,5 @@
 -- The rule of the stop table, after docs/CELLS.md, and what each step on it tells.
-use Rattle.std.specs.Prelude.{◌≡◌, ℕ, ◌+◌, Bool, true, [], ◌∷◌, length, Some, None}
+use Rattle.std.specs.Prelude.{◌≡◌, ℕ, ◌+◌, [], ◌∷◌, length, Some}
 use mathlib.Core.Option.{some}
 use lib.ListN.{get_elem?}
 use Rattle.atomic_table.specs.Table.{State, Me}
@@ -9,7 +9,7 @@ use Rattle.hv_cell.specs.declared.stop_view.StopRole.{StopRole}
 use Rattle.hv_cell.specs.declared.stop_view.StopRole.TheVariants.{Fresh, Maker, Watching, Spent}
 use Rattle.hv_cell.specs.declared.stop_view.StopView.{StopView}
 use Rattle.hv_cell.specs.Tokens.{no_table, naming}
-use Rattle.hv_cell.specs.Reasons.{no_reason, both, has, Within, word_of, reasons_in}
+use Rattle.hv_cell.specs.Reasons.{no_reason, both, Within, word_of, reasons_in}
 
 -- a seat of the stop table: it holds no slot
 abbrev pub Sat : Type 0 → Type 0

@@ -1,4 +1,4 @@
-use Rattle.std.proofs.Common.{rules, sym, ap, ◌∙◌}
+use Rattle.std.proofs.Common.{rules, ap, ◌∙◌}
 use Rattle.hv_cell.specs.declared.cell_view.Held.TheVariants.{Nothing}
 use Rattle.hv_cell.specs.CellRule.{IsPut}
 use Rattle.hv_cell.proofs.Seating.{pairs_me}
