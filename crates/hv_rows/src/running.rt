@@ -1,4 +1,6 @@
 // One run of the tool over memory.
+ghost use Rattle.std.specs.Prelude.{◌≡◌, None, IfOk};
+
 use hv_driver::{Status, alone};
 use hv_ports::{MemSink, MemSource};
 use std::alloc::{AllocError, Global};
@@ -25,7 +27,9 @@ pub fn source_of(
     text: &[u8],
     fails: Vec<u64>,
     most: usize,
-) -> Result<MemSource, AllocError> {
+) -> Result<MemSource, AllocError>
+    ensures { IfOk result (λ source. source.asked ≡ None) }
+{
     let mut files = Vec::new(alloc);
     files.push((String::from_str(alloc, "F")?, text.to_vec(alloc)?))?;
     Ok(MemSource::new(files, fails, most.max(1)))
@@ -37,7 +41,9 @@ pub fn run(
     words: &[&str],
     source: MemSource,
     limit: usize,
-) -> Result<Ran, AllocError> {
+) -> Result<Ran, AllocError>
+    requires { source.asked ≡ None }
+{
     let mut source = source;
     let words = words_of(alloc, words)?;
     let mut sink = MemSink::new(alloc, limit)?;
