@@ -2,6 +2,7 @@
 #![tactic(auto)]
 
 mod ast;
+pub mod builders;
 mod place;
 mod refusal;
 mod task;

@@ -1,5 +1,6 @@
-ghost use Rattle.std.specs.Prelude.{◌≡◌, ◌≤◌, ◌<◌, length};
-ghost use Rattle.hv_tree.specs.Place.{line_of, column_of, begins_character};
+ghost use Rattle.std.specs.Prelude.{◌≡◌, ◌≤◌, ◌<◌, List, ℕ, length, take};
+ghost use Rattle.std.specs.Str.{encode_utf8_all};
+ghost use Rattle.hv_tree.specs.Place.{line_of, column_of, column_after, begins_character};
 
 /// A byte of the source, by its offset.
 #[derive(Clone, Copy, Debug, PartialEq, Eq, PartialOrd, Ord)]
@@ -19,6 +20,7 @@ pub fn line_col(source: &[u8], at: Place) -> (u32, u32)
     requires { length source.now < 4294967295 }
     ensures line { result.0 ≡ line_of source.now at.start }
     ensures column { result.1 ≡ column_of source.now at.start }
+    ensures characters { (characters : List ℕ) → encode_utf8_all characters ≡ take at.start source.now → result.1 ≡ column_after characters }
 {
     let mut line = 1;
     let mut column = 1;

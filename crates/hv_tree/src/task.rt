@@ -1,4 +1,6 @@
-ghost use Rattle.std.specs.Prelude.{◌≡◌, [], ◌∷◌, ◌++◌, ◌↔◌, IfOk, IsTrue, List, ℕ};
+ghost use Rattle.std.specs.Prelude.{◌≡◌, [], ◌∷◌, ◌++◌, ◌↔◌, IfOk, IsTrue, List, ℕ, map};
+ghost use Rattle.std.specs.List.{join_with_byte};
+ghost use Rattle.std.specs.Fmt.{decimal};
 
 use std::alloc::{AllocError as NoMemory, Global};
 use std::marker::Model;
@@ -47,6 +49,21 @@ impl TaskId {
         ensures { IsTrue result ↔ (self.now ≡ other.now) }
     {
         self.path.as_slice() == other.path.as_slice()
+    }
+
+    /// The numbers in decimal with dots between them, as `0.2.1`.
+    pub fn text(&self, alloc: Global) -> Result<Vec<u8>, NoMemory>
+        ensures { IfOk result (λ text. text.items ≡ join_with_byte 46 (map decimal self.now)) }
+    {
+        let mut text = Vec::new(alloc);
+        for (at, number) in self.path.iter().enumerate() {
+            if at > 0 {
+                text.push(b'.')?;
+            }
+            let digits = number.to_string(alloc)?;
+            text.extend_from_slice(digits.as_bytes())?;
+        }
+        Ok(text)
     }
 }
 

@@ -1,0 +1,4 @@
+mod Columns
+mod Dotted
+pub mod CoreLemmas
+mod Examples
