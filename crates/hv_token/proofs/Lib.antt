@@ -1,0 +1,10 @@
+pub mod Scanning
+pub mod Shapes
+pub mod Longest
+pub mod Cuts
+pub mod Stops
+pub mod Lexing
+pub mod Only
+pub mod Taking
+pub mod Digits
+pub mod Turns
