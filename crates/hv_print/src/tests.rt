@@ -214,7 +214,7 @@ fn bindings(alloc: Global) -> Result<Vec<Stmt>, NoMemory> {
         name(alloc, "k")?,
         name(alloc, "r")?,
     );
-    vec![in alloc;
+    let stmts = vec![in alloc;
         stmt(alloc, build::stmt_kind_var(alloc, i, int(alloc)?, None)?)?,
         stmt(alloc, build::stmt_kind_var(alloc, j, int(alloc)?, one)?)?,
         stmt(alloc, build::stmt_kind_let(alloc, k, int(alloc)?, truth)?)?,
@@ -223,7 +223,8 @@ fn bindings(alloc: Global) -> Result<Vec<Stmt>, NoMemory> {
             alloc,
             build::stmt_kind_assign(alloc, place(alloc, "r")?, path(alloc, "j")?)?
         )?,
-    ]
+    ]?;
+    Ok(stmts)
 }
 
 #[test]
