@@ -1,17 +1,17 @@
 -- How expressions unfold.
-use Rattle.std.proofs.Common.{◌≡◌, ◌<◌, ◌∙◌, ℕ, suc, ℤ, List, [], ◌∷◌, Ok, Err, refl, sym, ap, map, length, drop, get_or, rules, drop-cons}
+use Rattle.std.proofs.Common.{◌≡◌, ◌<◌, ◌∙◌, ℕ, suc, ℤ, List, [], ◌∷◌, Ok, Err, refl, sym, ap, map, length, drop, get_or, drop-cons}
 use Rattle.hv_tree.specs.declared.place.Place.{Place}
 use Rattle.hv_tree.specs.declared.ast.Operator.{Operator}
 use Rattle.hv_tree.specs.declared.ast.Expr.{Expr, out-Expr}
 use Rattle.hv_tree.specs.declared.ast.ExprKind.{ExprKind, out-ExprKind}
 use Rattle.hv_tree.specs.declared.ast.ExprKind.TheVariants as v
 use Rattle.hv_tree.specs.declared.ast.Arg.TheOpen.{ExprKind-F}
-use Rattle.hv_tree.specs.declared.ast.Arg.TheViews.{the_lemmas}
-use Rattle.hv_tree.specs.declared.ast.Arg.TheFolds.{fold_out-Expr, fold_out-ExprKind}
+use Rattle.hv_tree.specs.Core.{core_kind, core_links}
+use Rattle.hv_tree.proofs.CoreLemmas.{opened_expr, expr_int, expr_chain, kind_int, kind_bool, kind_path, kind_call, kind_await, kind_array_lit, kind_filled, kind_count, kind_lambda, kind_prefix, kind_chain}
 use Rattle.hv_meaning.specs.declared.node.Halt.{Halt}
 use Rattle.hv_meaning.specs.declared.node.Halt.TheVariants.{Stuck}
 use Rattle.hv_meaning.specs.Layers.{ExprLayer}
-use Rattle.hv_meaning.specs.Values.{Outcome, and_then, applied, chain_from, kind_value, value_of, part_value}
+use Rattle.hv_meaning.specs.Values.{Outcome, and_then, applied, chain_from, chained, value, value_of, part_value}
 
 -- the value of an expression, from the values of its parts
 unfoldable pub value_by : ExprLayer → Outcome
@@ -19,23 +19,33 @@ value_by (ExprKind-F.Int n) = Ok n
 value_by (ExprKind-F.Chain first parts) = chain_from (value_of first) (map part_value parts)
 value_by _ = Err Stuck
 
-by_kind : (k : ExprKind) (u : ExprLayer) → out-ExprKind k ≡ u → kind_value k ≡ value_by u
-unfolding kind_value value_of value_by
-by_kind k (ExprKind-F.Int n) e = fold_out-ExprKind _ _ _ _ _ _ _ _ _ _ _ _ _ _ _ _ _ _ _ _ k ∙ rw e refl
-by_kind k (ExprKind-F.Chain first parts) e = fold_out-ExprKind _ _ _ _ _ _ _ _ _ _ _ _ _ _ _ _ _ _ _ _ k ∙ rw e refl
-by_kind k u e = fold_out-ExprKind _ _ _ _ _ _ _ _ _ _ _ _ _ _ _ _ _ _ _ _ k ∙ rw e refl
+-- a chain in its plain form and as a list
+links_same : (links : List (Operator × Place × Expr)) (left : Outcome) → chained (core_links links) left ≡ chain_from left (map part_value links)
+links_same [] left = refl
+links_same (link ∷ links) left = links_same links (and_then left (λ a. and_then (value_of link.2) (λ b. applied link.0 link.1 a b)))
+
+by_kind : (k : ExprKind) (at : Place) (u : ExprLayer) → out-ExprKind k ≡ u → value (core_kind k at) ≡ value_by u
+unfolding value_by
+by_kind k at (ExprKind-F.Int n) e = ap value (kind_int k at n e)
+by_kind k at (ExprKind-F.Bool b) e = ap value (kind_bool k at b e)
+by_kind k at (ExprKind-F.Path p) e = ap value (kind_path k at p e)
+by_kind k at (ExprKind-F.ExprKind::Call c) e = ap value (kind_call k at c e)
+by_kind k at (ExprKind-F.ExprKind::Await name) e = ap value (kind_await k at name e)
+by_kind k at (ExprKind-F.ArrayLit xs) e = ap value (kind_array_lit k at xs e)
+by_kind k at (ExprKind-F.Filled len item) e = ap value (kind_filled k at len item e)
+by_kind k at (ExprKind-F.Count p) e = ap value (kind_count k at p e)
+by_kind k at (ExprKind-F.Lambda captures params result body) e = ap value (kind_lambda k at captures params result body e)
+by_kind k at (ExprKind-F.Prefix o x) e = ap value (kind_prefix k at o x e)
+by_kind k at (ExprKind-F.Chain first links) e = ap value (kind_chain k at first links e) ∙ links_same links (value_of first)
 
 pub value_opened : (e : Expr) → value_of e ≡ value_by (out-ExprKind (out-Expr e).kind)
-unfolding value_of kind_value
-value_opened e = fold_out-Expr _ _ _ _ _ _ _ _ _ _ _ _ _ _ _ _ _ _ _ _ e ∙ by_kind (out-Expr e).kind _ refl
+value_opened e = ap value (opened_expr e) ∙ by_kind (out-Expr e).kind (out-Expr e).place _ refl
 
 pub value_int : (e : Expr) (n : ℤ) → (out-Expr e).kind ≡ v.Int n → value_of e ≡ Ok n
-unfolding value_by
-value_int e n h = value_opened e ∙ ap (λ k. value_by (out-ExprKind k)) h ∙ search (rules, the_lemmas)
+value_int e n h = ap value (expr_int e n h)
 
 pub value_chain : (e first : Expr) (parts : List (Operator × Place × Expr)) → (out-Expr e).kind ≡ v.Chain first parts → value_of e ≡ chain_from (value_of first) (map part_value parts)
-unfolding value_by
-value_chain e first parts h = value_opened e ∙ ap (λ k. value_by (out-ExprKind k)) h ∙ search (rules, the_lemmas)
+value_chain e first parts h = ap value (expr_chain e first parts h) ∙ links_same parts (value_of first)
 
 pub chain_err : (halt : Halt) (parts : List (Operator × Place × Outcome)) → chain_from (Err halt) parts ≡ Err halt
 chain_err halt [] = refl

@@ -1,28 +1,26 @@
 -- A program of sums is never stuck.
-use Rattle.std.proofs.Common.{◌≡◌, ◌∙◌, ℕ, zero, suc, ℤ, ◌+ℤ◌, ◌-ℤ◌, Bool, true, false, cond, ◌&&◌, List, [], ◌∷◌, Option, Some, None, Ok, Err, refl, sym, ap, subst, map}
+use Rattle.std.proofs.Common.{◌≡◌, ◌∙◌, ℕ, zero, suc, ℤ, ◌+ℤ◌, ◌-ℤ◌, ◌*ℤ◌, Bool, true, false, cond, ◌&&◌, List, [], ◌∷◌, Option, Some, None, Ok, Err, refl, ap}
 use Rattle.std.specs.Prelude.{is_some, codes, bytes_eq}
 use Rattle.std.specs.List.{list_all}
 use Rattle.std.proofs.lemmas.Bool.{false≢true, and_parts}
 use Rattle.hv_tree.specs.declared.place.Place.{Place}
 use Rattle.hv_tree.specs.declared.ast.Operator.{Operator}
-use Rattle.hv_tree.specs.declared.ast.Operator.TheVariants.{Add, Sub}
+use Rattle.hv_tree.specs.declared.ast.Operator.TheVariants.{Add, Sub, Mul}
 use Rattle.hv_tree.specs.declared.ast.Decl.{Decl}
 use Rattle.hv_tree.specs.declared.ast.Decl.TheVariants.{Fun}
 use Rattle.hv_tree.specs.declared.ast.Block.{out-Block}
-use Rattle.hv_tree.specs.declared.ast.Expr.{Expr, out-Expr}
-use Rattle.hv_tree.specs.declared.ast.ExprKind.{out-ExprKind}
 use Rattle.hv_tree.specs.declared.ast.Stmt.{Stmt, out-Stmt}
 use Rattle.hv_tree.specs.declared.ast.StmtKind.{out-StmtKind}
 use Rattle.hv_tree.specs.declared.ast.Tree.{Tree}
-use Rattle.hv_tree.specs.declared.ast.Arg.TheOpen.{ExprKind-F, StmtKind-F}
+use Rattle.hv_tree.specs.declared.ast.Arg.TheOpen.{StmtKind-F}
 use Rattle.hv_meaning.specs.declared.node.TaskNode.{TaskNode}
 use Rattle.hv_meaning.specs.declared.node.Halt.TheVariants.{Trap, Stuck}
 use Rattle.hv_meaning.specs.declared.node.TrapKind.TheVariants.{Overflow}
-use Rattle.hv_meaning.specs.Layers.{ExprLayer, StmtLayer}
-use Rattle.hv_meaning.specs.Values.{Outcome, is_int, checked, applied, and_then, chain_from, value_of, part_value}
+use Rattle.hv_meaning.specs.Layers.{StmtLayer}
+use Rattle.hv_tree.specs.Core.{CoreExpr, CoreLinks, Number, Chain, NoLinks, LinkOf, core_of}
+use Rattle.hv_meaning.specs.Values.{Outcome, is_int, checked, applied, and_then, chained, value}
 use Rattle.hv_meaning.specs.Meaning.{print_of, printed_by, printed_of, run, run_main, main_of, IsSafe}
-use Rattle.hv_meaning.specs.Runs.{number_by, is_number, is_sign, is_part, sum_by, print_by, prints_sum, no_params, no_result, decls_run, Runs}
-use Rattle.hv_meaning.proofs.Chains.{value_by, value_opened}
+use Rattle.hv_meaning.specs.Runs.{is_sign, is_sum, are_sums, print_by, prints_sum, no_params, no_result, decls_run, Runs}
 
 -- a value or a trap
 abbrev GoesOn : Outcome → Type 0
@@ -40,42 +38,33 @@ checked_on place n = fits_or_traps (is_int n) place n
 applied_on : (operator : Operator) (place : Place) (a b : ℤ) → is_sign operator ≡ true → GoesOn (applied operator place a b)
 applied_on Add place a b e = checked_on place (a +ℤ b)
 applied_on Sub place a b e = checked_on place (a -ℤ b)
+applied_on Mul place a b e = checked_on place (a *ℤ b)
 applied_on _ place a b e = absurd (false≢true e)
 
-number_on : (u : ExprLayer) → number_by u ≡ true → (n : ℤ) × (value_by u ≡ Ok n)
-unfolding value_by
-number_on (ExprKind-F.Int n) e = (n, refl)
-number_on _ e = absurd (false≢true e)
+operand_on : (operator : Operator) (at : Place) (left right : Outcome) → is_sign operator ≡ true → GoesOn left → GoesOn right → GoesOn (and_then left (λ a. and_then right (λ b. applied operator at a b)))
+operand_on operator at (Ok a) (Ok b) s l r = applied_on operator at a b s
+operand_on operator at (Ok a) (Err (Trap kind place)) s l r = tt
+operand_on operator at (Ok a) (Err Stuck) s l r = absurd r
+operand_on operator at (Err (Trap kind place)) right s l r = tt
+operand_on operator at (Err Stuck) right s l r = absurd l
 
--- a number has a value
-number_value : (e : Expr) → is_number e ≡ true → (n : ℤ) × (value_of e ≡ Ok n)
-number_value e h = let n = number_on (out-ExprKind (out-Expr e).kind) h in (n.0, value_opened e ∙ n.1)
+mutual
+  sum_on : (x : CoreExpr) → is_sum x ≡ true → GoesOn (value x)
+  sum_on (Number at n) h = tt
+  sum_on (Chain at first links) h =
+      let h2 = and_parts (is_sum first) (are_sums links) h in
+      links_on links (value first) h2.1 (sum_on first h2.0)
+  sum_on _ h = absurd (false≢true h)
 
-operand_on : (left : Outcome) (part : Operator × Place × Expr) → is_part part ≡ true → GoesOn left → GoesOn (and_then left (λ a. and_then (value_of part.2) (λ b. applied part.0 part.1 a b)))
-operand_on (Ok a) part h o =
-    let h2 = and_parts (is_sign part.0) (is_number part.2) h in
-    let n = number_value part.2 h2.1 in
-    subst (λ v. GoesOn (and_then v (λ b. applied part.0 part.1 a b))) (sym n.1) (applied_on part.0 part.1 a n.0 h2.0)
-operand_on (Err (Trap kind place)) part h o = tt
-operand_on (Err Stuck) part h o = absurd o
-
-chain_on : (parts : List (Operator × Place × Expr)) (left : Outcome) → list_all is_part parts ≡ true → GoesOn left → GoesOn (chain_from left (map part_value parts))
-chain_on [] left h o = o
-chain_on (part ∷ parts) left h o =
-    let h2 = and_parts (is_part part) (list_all is_part parts) h in
-    chain_on parts (and_then left (λ a. and_then (value_of part.2) (λ b. applied part.0 part.1 a b))) h2.1 (operand_on left part h2.0 o)
-
-sum_on : (u : ExprLayer) → sum_by u ≡ true → GoesOn (value_by u)
-unfolding value_by
-sum_on (ExprKind-F.Int n) h = tt
-sum_on (ExprKind-F.Chain first parts) h =
-    let h2 = and_parts (is_number first) (list_all is_part parts) h in
-    let n = number_value first h2.0 in
-    subst (λ v. GoesOn (chain_from v (map part_value parts))) (sym n.1) (chain_on parts (Ok n.0) h2.1 tt)
-sum_on _ h = absurd (false≢true h)
+  links_on : (links : CoreLinks) (left : Outcome) → are_sums links ≡ true → GoesOn left → GoesOn (chained links left)
+  links_on NoLinks left h o = o
+  links_on (LinkOf operator at x more) left h o =
+      let h2 = and_parts (is_sign operator) (is_sum x && are_sums more) h in
+      let h3 = and_parts (is_sum x) (are_sums more) h2.1 in
+      links_on more (and_then left (λ a. and_then (value x) (λ b. applied operator at a b))) h3.1 (operand_on operator at left (value x) h2.0 o (sum_on x h3.0))
 
 print_on : (u : StmtLayer) → print_by u ≡ true → GoesOn (printed_by u)
-print_on (StmtKind-F.Print e) h = subst GoesOn (sym (value_opened e)) (sum_on (out-ExprKind (out-Expr e).kind) h)
+print_on (StmtKind-F.Print e) h = sum_on (core_of e) h
 print_on _ h = absurd (false≢true h)
 
 line_on : (o : Outcome) (rest : Option TaskNode) → GoesOn o → is_some rest ≡ true → is_some (print_of o rest) ≡ true

@@ -1,3 +1,4 @@
 pub mod Chains
-pub mod Runs
+pub mod Running
 pub mod GoingOn
+pub mod Sums

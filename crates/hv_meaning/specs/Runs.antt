@@ -1,50 +1,40 @@
 -- The programs that have a meaning so far: `main` alone, which prints sums of numbers.
 use Rattle.std.specs.Prelude.{◌≡◌, Bool, true, false, ◌&&◌, List, [], ◌∷◌, Option, Some, None, codes, bytes_eq}
 use Rattle.std.specs.List.{list_all}
-use Rattle.hv_tree.specs.declared.place.Place.{Place}
 use Rattle.hv_tree.specs.declared.ast.Tree.{Tree}
 use Rattle.hv_tree.specs.declared.ast.Decl.{Decl}
 use Rattle.hv_tree.specs.declared.ast.Decl.TheVariants.{Fun}
 use Rattle.hv_tree.specs.declared.ast.FunDecl.{FunDecl}
 use Rattle.hv_tree.specs.declared.ast.Param.{Param}
 use Rattle.hv_tree.specs.declared.ast.Block.{out-Block}
-use Rattle.hv_tree.specs.declared.ast.Expr.{Expr, out-Expr}
-use Rattle.hv_tree.specs.declared.ast.ExprKind.{out-ExprKind}
 use Rattle.hv_tree.specs.declared.ast.Stmt.{Stmt, out-Stmt}
 use Rattle.hv_tree.specs.declared.ast.StmtKind.{out-StmtKind}
 use Rattle.hv_tree.specs.declared.ast.Operator.{Operator}
-use Rattle.hv_tree.specs.declared.ast.Operator.TheVariants.{Add, Sub}
-use Rattle.hv_tree.specs.declared.ast.Arg.TheOpen.{ExprKind-F, StmtKind-F}
+use Rattle.hv_tree.specs.declared.ast.Operator.TheVariants.{Add, Sub, Mul}
+use Rattle.hv_tree.specs.declared.ast.Arg.TheOpen.{StmtKind-F}
 use Rattle.hv_tree.specs.declared.types.Ty.{Ty}
-use Rattle.hv_meaning.specs.Layers.{ExprLayer, StmtLayer}
-
-abbrev pub number_by : ExprLayer → Bool
-number_by (ExprKind-F.Int n) = true
-number_by _ = false
-
-abbrev pub is_number : Expr → Bool
-is_number e = number_by (out-ExprKind (out-Expr e).kind)
+use Rattle.hv_tree.specs.Core.{CoreExpr, CoreLinks, Number, Chain, NoLinks, LinkOf, core_of}
+use Rattle.hv_meaning.specs.Layers.{StmtLayer}
 
 abbrev pub is_sign : Operator → Bool
 is_sign Add = true
 is_sign Sub = true
+is_sign Mul = true
 is_sign _ = false
 
--- a sign and the number behind it
-abbrev pub is_part : Operator × Place × Expr → Bool
-is_part part = is_sign part.0 && is_number part.2
+abbrev mutual
+  -- numbers, and chains of such operands with `+`, `-` and `*`
+  pub is_sum : CoreExpr → Bool
+  is_sum (Number at n) = true
+  is_sum (Chain at first links) = is_sum first && are_sums links
+  is_sum _ = false
 
-abbrev pub sum_by : ExprLayer → Bool
-sum_by (ExprKind-F.Int n) = true
-sum_by (ExprKind-F.Chain first parts) = is_number first && list_all is_part parts
-sum_by _ = false
-
--- a number, or numbers with signs between them
-abbrev pub is_sum : Expr → Bool
-is_sum e = sum_by (out-ExprKind (out-Expr e).kind)
+  pub are_sums : CoreLinks → Bool
+  are_sums NoLinks = true
+  are_sums (LinkOf operator at x more) = is_sign operator && (is_sum x && are_sums more)
 
 abbrev pub print_by : StmtLayer → Bool
-print_by (StmtKind-F.Print e) = is_sum e
+print_by (StmtKind-F.Print e) = is_sum (core_of e)
 print_by _ = false
 
 abbrev pub prints_sum : Stmt → Bool

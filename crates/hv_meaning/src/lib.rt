@@ -2,10 +2,12 @@
 #![tactic(auto)]
 
 mod node;
+mod ready;
 mod run;
 mod safe;
 mod value;
 
 pub use node::{End, Halt, TaskNode, TrapKind};
+pub use ready::runs;
 pub use run::plain;
 pub use safe::runs_are_safe;

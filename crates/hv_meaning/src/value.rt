@@ -39,6 +39,7 @@ fn apply(operator: Operator, place: Place, left: i64, right: i64) -> Result<i64,
     let outcome = match operator {
         Operator::Add => left.checked_add(right),
         Operator::Sub => left.checked_sub(right),
+        Operator::Mul => left.checked_mul(right),
         _ => return Err(Halt::Stuck),
     };
     outcome.ok_or(Halt::Trap(TrapKind::Overflow, place))

@@ -3,7 +3,7 @@ use Rattle.std.specs.Option.{option_copied}
 use Rattle.std.specs.Prelude.{is_some}
 use Rattle.std.proofs.lemmas.Bool.{false≢true}
 use Rattle.hv_meaning.specs.Meaning.{main_of, run, run_main}
-use Rattle.hv_meaning.proofs.Runs.{no_node}
+use Rattle.hv_meaning.proofs.Running.{no_node}
 use Rattle.hv_meaning.proofs.run.plain.Goals as goal
 
 pub unreachable-requires : goal.unreachable-requires

@@ -1,6 +1,6 @@
 use Rattle.std.proofs.Common.{◌<◌, FitsSigned, w64, rules, arith, sym, ◌∙◌}
 use Rattle.std.proofs.lemmas.Int.{to_z-of_z}
-use Rattle.hv_meaning.proofs.Runs.{printed_on, halted_at}
+use Rattle.hv_meaning.proofs.Running.{printed_on, halted_at}
 use Rattle.hv_meaning.proofs.run.run_all.Goals as goal
 
 pub returns-in-Err : goal.returns-in-Err

@@ -1,5 +1,5 @@
 use Rattle.std.proofs.Common.{◌≡◌, Ok, Err, FitsSigned, w64, rules, ap, sym, ◌∙◌, map}
-use Rattle.hv_meaning.proofs.Chains.{chain_err, value_chain, operand_stops, operator_stops}
+use Rattle.hv_meaning.proofs.Chains.{chain_err, value_int, value_chain, operand_stops, operator_stops}
 use Rattle.std.proofs.lemmas.Int.{to_z-of_z}
 use Rattle.std.proofs.lemmas.Result.{err_from_is_err_and}
 use Rattle.hv_meaning.specs.Values.{value_of, chain_from, part_value}
@@ -36,3 +36,8 @@ chain-returns-in_err-left t c =
     let e = operator_stops _ _ c.args.parts.now c.loop-operator.operator-index c.loop-operator-item.result p.0 c.loop-operator-test.true c.loop-operator-item.is (sym c.value.ensures ∙ c.in_ok-right.was) stops in
     let whole = p.1 ∙ sym (c.loop-operator.invariant ∙ e) in
     simp to_z-of_z at whole
+
+pub value-returns-in-Int : goal.value-returns-in-Int
+value-returns-in-Int t c =
+    let fits : FitsSigned w64 c.in-Int.n = search rules in
+    simp to_z-of_z (sym (value_int c.args.e.now c.in-Int.n c.in-Int.is))
