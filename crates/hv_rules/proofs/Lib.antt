@@ -1,1 +1,4 @@
 pub mod Overlaps
+pub mod Runs
+pub mod Listed
+mod Traces
