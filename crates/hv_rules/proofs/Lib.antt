@@ -1,4 +1,9 @@
 pub mod Overlaps
 pub mod Runs
 pub mod Listed
+-- examples
+mod Programs
 mod Traces
+mod Violations
+mod NameExamples
+mod TypeExamples

@@ -1,6 +1,6 @@
 -- One run of a flow, by the sides that it takes; it takes no turn of a loop.
-use Rattle.std.proofs.Common.{◌≡◌, ◌⊎◌, inl, inr, Bool, true, false, List, [], ◌∷◌, ◌++◌, refl}
-use Rattle.hv_rules.specs.Flow.{Flow, Skip, Do, Stop, Then, Either, Loop, Turns, none, more, Ends, Leaves, IsWhole, IsTrace}
+use Rattle.std.proofs.Common.{◌≡◌, inl, inr, Bool, true, false, List, [], ◌∷◌, ◌++◌, refl}
+use Rattle.hv_rules.specs.Flow.{Flow, Skip, Do, Stop, Then, Either, Loop, none, Ends, Leaves, IsWhole, IsTrace}
 
 -- the events of a run, whether it leaves the body, and the sides that weren't asked for
 pub record Run (E : Type 0) : Type 0 where

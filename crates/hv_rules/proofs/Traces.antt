@@ -1,5 +1,5 @@
 -- The whole traces of a few constructs: exactly the listed ones.
-use Rattle.std.proofs.Common.{◌≡◌, ◌⊎◌, ◌↔◌, ℕ, Bool, true, false, List, [], ◌∷◌, Option, Some, None, refl, codes}
+use Rattle.std.proofs.Common.{◌↔◌, ℕ, false, List, [], ◌∷◌, codes}
 use Rattle.hv_tree.specs.declared.place.Place.{Place}
 use Rattle.hv_tree.specs.declared.types.Name.{Name}
 use Rattle.hv_tree.specs.declared.ast.Operator.TheVariants as operator

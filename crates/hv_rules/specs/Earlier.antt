@@ -44,3 +44,8 @@ IsEarlier None None r = r ≡ None
 IsEarlier (Some x) None r = r ≡ Some x
 IsEarlier None (Some y) r = r ≡ Some y
 IsEarlier (Some x) (Some y) r = ((r ≡ Some x) × NotAfter x y) ⊎ ((r ≡ Some y) × NotAfter y x)
+
+-- the first of all refusals that there are, or none where there is none
+abbrev pub IsFirst : (Refusal → Type 0) → Option Refusal → Type 0
+IsFirst Is None = (r : Refusal) → Is r → ⊥
+IsFirst Is (Some first) = Is first × ((r : Refusal) → Is r → NotAfter first r)

@@ -13,7 +13,7 @@ use Rattle.hv_rules.specs.declared.path.StaticPath.{StaticPath}
 use Rattle.hv_rules.specs.declared.event.FlowEvent.{FlowEvent}
 use Rattle.hv_rules.specs.declared.event.FlowEvent.TheVariants as event
 use Rattle.hv_rules.specs.Types.{ValueType, IntType, BoolType, StructType, ArrayType, FunType, FunToType, convs_of, FieldAt, field_of, element_of, fun_in}
-use Rattle.hv_rules.specs.Locals.{LocalKind, Captured, Passed, VarBound, LetBound, InoutBound, Handle, Local, binds, declared_in, in_block, CoreBody, entry_locals, locals_of, number_in, local_in, type_or_none}
+use Rattle.hv_rules.specs.Locals.{LocalKind, Captured, Passed, VarBound, LetBound, InoutBound, Handle, Local, binds, declared_in, in_block, CoreBody, entry_locals, locals_of, number_in, local_in, value_of}
 use Rattle.hv_rules.specs.Flow.{Flow, Skip, Do, Stop, Then, Either, Loop}
 
 -- ---- events where they stand
@@ -245,7 +245,7 @@ module _ (tree : Core) (locals : List Local) where
   -- the event of a place, where its root is a local
   abbrev pub on_root : Doing → Option ℕ → Name → CoreSteps → Events
   on_root does None root steps = Skip
-  on_root does (Some n) root steps = Do (does (record { root = n; steps = static_steps tree (type_or_none (local_of root)) steps }) root.place)
+  on_root does (Some n) root steps = Do (does (record { root = n; steps = static_steps tree (value_of (local_of root)) steps }) root.place)
 
   abbrev pub on_handle : (ℕ → FlowEvent) → Option ℕ → Place → Events
   on_handle e None at = Skip

@@ -111,6 +111,15 @@ abbrev pub local_in : List Local → List ℕ → Option Local
 local_in [] text = None
 local_in (l ∷ ls) text = if bytes_eq l.name.text text then Some l else local_in ls text
 
-abbrev pub type_or_none : Option Local → Option ValueType
-type_or_none None = None
-type_or_none (Some l) = l.ty
+-- a handle is no value
+abbrev pub value_by : LocalKind → Option ValueType → Option ValueType
+value_by Captured t = t
+value_by (Passed c) t = t
+value_by VarBound t = t
+value_by LetBound t = t
+value_by InoutBound t = t
+value_by Handle t = None
+
+abbrev pub value_of : Option Local → Option ValueType
+value_of None = None
+value_of (Some l) = value_by l.kind l.ty

@@ -1,17 +1,20 @@
 -- The rules on events: some trace of the body ends in an event that violates the rule.
-use Rattle.std.specs.Prelude.{◌≡◌, ◌≢◌, ℕ, zero, suc, Bool, true, false, if◌then◌else◌, List, [], ◌∷◌, ◌++◌, Option, Some, None, Contains}
+use Rattle.std.specs.Prelude.{◌≡◌, ◌≢◌, ◌⊎◌, ℕ, zero, suc, Bool, true, false, if◌then◌else◌, List, [], ◌∷◌, ◌++◌, Option, Some, None, Contains}
 use Rattle.hv_tree.specs.declared.place.Place.{Place}
 use Rattle.hv_tree.specs.declared.refusal.Rule.{Rule}
 use Rattle.hv_tree.specs.declared.refusal.Rule.TheVariants as rule
-use Rattle.hv_tree.specs.Core.{Core}
+use Rattle.hv_tree.specs.declared.types.Conv.{Conv}
+use Rattle.hv_tree.specs.declared.types.Conv.TheVariants as conv
+use Rattle.hv_tree.specs.Core.{Core, CoreStmt, Task, CoreCall, CallOf}
 use Rattle.hv_rules.specs.declared.path.StaticPath.{StaticPath}
 use Rattle.hv_rules.specs.declared.event.FlowEvent.{FlowEvent}
 use Rattle.hv_rules.specs.declared.event.FlowEvent.TheVariants as event
 use Rattle.hv_rules.specs.Paths.{Overlap}
 use Rattle.hv_rules.specs.Types.{ValueType, leaves_of}
-use Rattle.hv_rules.specs.Locals.{Local, CoreBody, locals_of}
+use Rattle.hv_rules.specs.Locals.{Local, CoreBody, locals_of, local_in}
+use Rattle.hv_rules.specs.Sites.{Part, ExprPart, CallPart, PlacePart, StmtPart, TestPart, Scope, Site, sites_of, bodies_of}
 use Rattle.hv_rules.specs.Flow.{IsTrace}
-use Rattle.hv_rules.specs.Events.{Belongs, ToNothing, ToDeclaration, ToEnd, Mark, body_events}
+use Rattle.hv_rules.specs.Events.{Belongs, ToNothing, ToDeclaration, ToEnd, Mark, Callee, Constructs, Takes, callee_by, body_events}
 use Rattle.hv_rules.specs.States.{fields_of, has_index, is_front, Access, Reading, Spawned, Awaited, State, state_after}
 
 -- ---- the leaves of a local
@@ -161,3 +164,35 @@ pub record IsViolatedIn (tree : Core) (body : CoreBody) (r : Rule) (place : Plac
   pub trace : Trace tree body (before ++ last ∷ [])
   pub at : last.place ≡ place
   pub violates : Violates tree body (state_after before) r last
+
+-- ---- the rules, of a program
+
+-- a convention by which a call changes what its caller has
+abbrev pub Changes : Conv → Type 0
+Changes c = (c ≡ conv.Inout) ⊎ (c ≡ conv.Set)
+
+abbrev pub convs_or_none : Callee → List Conv
+convs_or_none Constructs = []
+convs_or_none (Takes cs) = cs
+
+-- the callee has an `inout` or `set` parameter
+abbrev pub TakesChange : Core → Scope → CoreCall → Place → Type 0
+TakesChange tree s (CallOf root steps paren args) place =
+    (root.place ≡ place) × (c : Conv) × Contains (convs_or_none (callee_by tree (local_in s.visible root.text) root steps)) c × Changes c
+
+-- a task whose function would change what its caller has, at the callee's root name
+abbrev pub SpawnsChange : Core → Scope → CoreStmt → Place → Type 0
+SpawnsChange tree s (Task at name t spawn budget call) place = TakesChange tree s call place
+SpawnsChange tree s _ place = ⊥
+
+abbrev pub ViolatesS3 : Core → Scope → Part → Place → Type 0
+ViolatesS3 tree s (StmtPart x) place = SpawnsChange tree s x place
+ViolatesS3 tree s (ExprPart x) place = ⊥
+ViolatesS3 tree s (CallPart call) place = ⊥
+ViolatesS3 tree s (PlacePart root steps) place = ⊥
+ViolatesS3 tree s (TestPart x) place = ⊥
+
+-- a rule on events is violated in some body, or S3 at some task, whether a trace reaches it or not
+pub data IsViolatedByEvents (tree : Core) (r : Rule) (place : Place) : Type 0 where
+  in_body : (body : CoreBody) → Contains (bodies_of tree) body → IsViolatedIn tree body r place → IsViolatedByEvents tree r place
+  at_task : (w : Site) → r ≡ rule.S3 → Contains (sites_of tree) w → ViolatesS3 tree w.scope w.part place → IsViolatedByEvents tree r place

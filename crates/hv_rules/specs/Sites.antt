@@ -2,7 +2,7 @@
 use Rattle.std.specs.Prelude.{List, [], ◌∷◌, ◌++◌, map, Option}
 use Rattle.hv_tree.specs.declared.types.Name.{Name}
 use Rattle.hv_tree.specs.Core.{Core, CoreDecl, StructOf, FunOf, CoreParam, CoreTy, CoreExpr, Number, Truth, Path, Calls, Awaits, Array, Filled, Count, Lambda, Prefix, Chain, CoreExprs, NoExprs, ExprOf, CoreLinks, NoLinks, LinkOf, CoreSteps, NoSteps, FieldStep, IndexStep, CoreCall, CallOf, CoreArgs, NoArgs, ValueArg, RefArg, CoreBlock, BlockOf, CoreStmts, NoStmts, StmtOf, CoreBranches, NoElse, Else, BranchOf, CoreStmt, Var, VarWith, Let, Inout, Assign, If, While, Return, ReturnWith, Print, Task, AwaitsAlone, CallsAlone, Bare}
-use Rattle.hv_rules.specs.Locals.{Captured, Local, binds, listed, CoreBody, fun_body, entry_locals, local_in, type_or_none}
+use Rattle.hv_rules.specs.Locals.{Captured, Local, binds, listed, CoreBody, fun_body, entry_locals, local_in, value_of}
 
 -- ---- parts that rules speak of
 
@@ -38,7 +38,7 @@ scope_behind x s = record { visible = listed (binds x) ++ s.visible; result = s.
 
 -- a capture has the type of the local that it stands for
 abbrev pub capture_local : List Local → Name → Local
-capture_local around name = record { name = name; kind = Captured; ty = type_or_none (local_in around name.text) }
+capture_local around name = record { name = name; kind = Captured; ty = value_of (local_in around name.text) }
 
 -- the body of a lambda, in which its captures and parameters are visible and nothing else that is local
 abbrev pub lambda_body : Scope → List Name → List CoreParam → Option CoreTy → CoreBlock → CoreBody
