@@ -4,6 +4,9 @@ pub mod Listed
 -- examples
 mod Programs
 mod Traces
+mod EventRows
+mod StateRows
 mod Violations
 mod NameExamples
 mod TypeExamples
+mod Corners

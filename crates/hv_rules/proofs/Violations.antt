@@ -21,7 +21,7 @@ use Rattle.hv_rules.proofs.Programs.{o, at, name, name_at, fun, param, int, num,
 -- ---- traces and refutations
 
 -- the events of the run that takes the first side each time, and no turn of a loop
-abbrev events_of : Core → CoreFun → List Mark
+abbrev pub events_of : Core → CoreFun → List Mark
 events_of tree g = (run (body_events tree (fun_body g)) []).events
 
 -- a trace whose last event doesn't violate the rule
@@ -33,7 +33,7 @@ only : {A : Type 0} (a b : A) → Contains (a ∷ []) b → b ≡ a
 only a b (zero, l, e) = sym e
 only a b (suc k, l, e) = absurd (omega arith)
 
-empty : {A : Type 0} (b : A) → Contains [] b → ⊥
+pub empty : {A : Type 0} (b : A) → Contains [] b → ⊥
 empty b (k, l, e) = omega arith
 
 -- in this function, behind these events, at the next one
@@ -41,7 +41,7 @@ module _ (tree : Core) (g : CoreFun) (before : List Mark) (last : Mark) (rest : 
   violated : (r : Rule) → Violates tree (fun_body g) (state_after before) r last → IsViolatedIn tree (fun_body g) r last.place
   violated r v = record { before = before; last = last; trace = run_front (body_events tree (fun_body g)) [] (before ++ last ∷ []) rest runs; at = refl; violates = v }
 
-  clear : (r : Rule) → (Violates tree (fun_body g) (state_after before) r last → ⊥) → Clear tree (fun_body g) r before last
+  pub clear : (r : Rule) → (Violates tree (fun_body g) (state_after before) r last → ⊥) → Clear tree (fun_body g) r before last
   clear r not = record { trace = run_front (body_events tree (fun_body g)) [] (before ++ last ∷ []) rest runs; clear = not }
 
   no_hole : (p : StaticPath) → asks_whole last.event ≡ Some p → (HasHole tree (fun_body g) (state_after before) p.root (fields_of p.steps) → ⊥) → Clear tree (fun_body g) rule.I1 before last

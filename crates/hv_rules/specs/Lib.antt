@@ -15,3 +15,5 @@ pub mod Events
 pub mod States
 -- the rules of initialisation, exclusivity and handles
 pub mod Rules
+-- the first violation, and accepted trees
+pub mod Accepted

@@ -4,6 +4,8 @@
 mod event;
 mod path;
 mod refused;
+#[cfg(test)]
+mod tests;
 
 pub use event::FlowEvent;
 pub use path::{StaticPath, StaticStep, overlap};

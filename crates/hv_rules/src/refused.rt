@@ -1,9 +1,8 @@
-ghost use Rattle.std.specs.Prelude.{◌≡◌, ◌≤◌};
 ghost use Rattle.hv_rules.specs.Earlier.{IsEarlier};
 
 use hv_tree::Refusal;
 
-/// The one with the lesser place, then with the lesser rule number; the two are equal where both agree.
+/// The one with the lesser place, at one place the one with the lesser rule.
 pub fn earlier(a: Option<Refusal>, b: Option<Refusal>) -> Option<Refusal>
     ensures first { IsEarlier a b result }
 {
