@@ -10,3 +10,4 @@ mod Violations
 mod NameExamples
 mod TypeExamples
 mod Corners
+mod Accepts

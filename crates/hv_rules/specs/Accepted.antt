@@ -55,14 +55,14 @@ abbrev pub IsViolated : Core → Rule → Place → Type 0
 IsViolated tree r place = IsViolatedByNames tree r place ⊎ IsViolatedByTypes tree r place ⊎ IsViolatedByEvents tree r place
 
 -- the tree violates the rule there, and the rule belongs to the phase
-abbrev pub IsViolatedIn : Phase → Core → Refusal → Type 0
-IsViolatedIn phase tree r = (phase_of r.rule ≡ Some phase) × IsViolated tree r.rule r.place
+abbrev pub IsViolatedInPhase : Phase → Core → Refusal → Type 0
+IsViolatedInPhase phase tree r = (phase_of r.rule ≡ Some phase) × IsViolated tree r.rule r.place
 
 -- the first violation of the first phase that has one, or none where none has
 abbrev pub IsFirstOf : List Phase → Core → Option Refusal → Type 0
 IsFirstOf [] tree v = v ≡ None
 IsFirstOf (phase ∷ phases) tree v =
-    ((v ≢ None) × IsFirst (IsViolatedIn phase tree) v) ⊎ (IsFirst (IsViolatedIn phase tree) None × IsFirstOf phases tree v)
+    ((v ≢ None) × IsFirst (IsViolatedInPhase phase tree) v) ⊎ (IsFirst (IsViolatedInPhase phase tree) None × IsFirstOf phases tree v)
 
 -- some tokens spell the tree, and it violates no rule
 pub record IsAccepted (tree : Tree) : Type 0 where
