@@ -1,16 +1,18 @@
 -- Corners of the rules of names, types and events, each with the place that counts.
-use Rattle.std.proofs.Common.{◌≡◌, inl, inr, ℕ, true, false, List, [], ◌∷◌, Some, None, refl, codes}
+use Rattle.std.proofs.Common.{◌≡◌, inl, inr, ℕ, true, false, List, [], ◌∷◌, ◌++◌, Some, None, refl, codes, lit<}
 use Rattle.hv_tree.specs.declared.types.Conv.TheVariants as conv
 use Rattle.hv_tree.specs.declared.refusal.Rule.TheVariants as rule
 use Rattle.hv_tree.specs.declared.ast.Operator.TheVariants as operator
-use Rattle.hv_tree.specs.Core.{Core, StructOf, CoreFun, CoreStruct, BoolTy, NamedTy, ArrayTy, VarWith, Inout, If, Return, ReturnWith, Task, CoreExpr, Truth, Path, Calls, Awaits, Count, Chain, NoLinks, LinkOf, Lambda, NoSteps, CallOf, NoArgs, ValueArg, RefArg, BlockOf, NoStmts, StmtOf, NoElse, BranchOf}
+use Rattle.hv_tree.specs.Core.{Core, StructOf, CoreFun, CoreStruct, BoolTy, NamedTy, ArrayTy, VarWith, Inout, If, Return, ReturnWith, Task, CoreExpr, Truth, Path, Calls, Awaits, Count, Chain, NoLinks, LinkOf, Lambda, NoSteps, CallOf, NoArgs, ValueArg, RefArg, BlockOf, NoStmts, StmtOf, NoElse, BranchOf, While}
 use Rattle.hv_rules.specs.declared.event.FlowEvent.TheVariants as event
 use Rattle.hv_rules.specs.Locals.{local, VarBound, Handle, fun_body}
 use Rattle.hv_rules.specs.Sites.{Part, ExprPart, CallPart, StmtPart, Scope}
 use Rattle.hv_rules.specs.Typing.{Unknown, Nothing, type_of}
 use Rattle.hv_rules.specs.Names.{NoLocal}
 use Rattle.hv_rules.specs.TypeRules.{ViolatesType, TooGreat}
-use Rattle.hv_rules.specs.Events.{mark, declaring, whole, ToEnd}
+use Rattle.hv_rules.specs.Events.{mark, declaring, whole, ToEnd, uses, body_events, Mark}
+use Rattle.hv_rules.specs.Rules.{IsViolatedIn}
+use Rattle.hv_rules.proofs.Runs.{run_front}
 use Rattle.hv_rules.proofs.Violations.{Clear, clear, empty}
 use Rattle.hv_rules.proofs.Programs.{o, at, name, name_at, fun, param, int, num, read, x, f, h, alone, two}
 
@@ -116,3 +118,27 @@ early = fun f [] None (VarWith o (name x) int (num 1) ∷ (If o (BranchOf (Truth
 early_return : Clear (alone early) (fun_body early) rule.I2 (mark (event.Declare 0) o ∷ (declaring 0 (event.Init (whole 0)) o ∷ [])) (record { event = event.Return; place = at 36; belongs = ToEnd [] [] false })
 early_return = clear (alone early) early (mark (event.Declare 0) o ∷ (declaring 0 (event.Init (whole 0)) o ∷ [])) (record { event = event.Return; place = at 36; belongs = ToEnd [] [] false }) [] refl rule.I2
     (λ v. empty v.0 v.1)
+
+-- ---- S1 at a return that stands before the task, in a loop's second turn
+
+-- `fun g(c: Bool) { while c { if c { return; } task h = spawn(9) g(c) } }`
+abbrev again : CoreFun
+again = fun g (param (codes "c") conv.Let (BoolTy o) ∷ []) None
+    (While o (read (codes "c")) (BlockOf (StmtOf (If o (BranchOf (read (codes "c")) (BlockOf (StmtOf (Return (at 35)) NoStmts) o) NoElse))
+    (StmtOf (Task o (name h) None o (num 9) (CallOf (name g) NoSteps o (ValueArg (read (codes "c")) NoArgs))) NoStmts)) o) ∷ []) 70
+
+-- the test twice, the task and the end of the first turn, and the test twice again
+abbrev first_turn : List Mark
+first_turn =
+    mark (event.Declare 0) o ∷ (declaring 0 (event.Init (whole 0)) o ∷ (uses (whole 0) o ∷ (uses (whole 0) o ∷ (uses (whole 0) o ∷ (mark (event.Spawn 1) o ∷
+    (record { event = event.ScopeEnd 1; place = o; belongs = ToEnd [] (1 ∷ []) false } ∷ (uses (whole 0) o ∷ (uses (whole 0) o ∷ []))))))))
+
+left_in_second_turn : IsViolatedIn (alone again) (fun_body again) rule.S1 (at 35)
+left_in_second_turn = record {
+  before = first_turn;
+  last = record { event = event.Return; place = at 35; belongs = ToEnd [] (1 ∷ []) false };
+  trace = run_front (body_events (alone again) (fun_body again)) (true ∷ (false ∷ (true ∷ (true ∷ []))))
+      (first_turn ++ record { event = event.Return; place = at 35; belongs = ToEnd [] (1 ∷ []) false } ∷ []) [] refl;
+  at = refl;
+  violates = (1, (0, lit< tt, refl), refl);
+}

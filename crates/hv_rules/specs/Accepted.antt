@@ -13,6 +13,7 @@ use Rattle.hv_rules.specs.Names.{IsViolatedByNames}
 use Rattle.hv_rules.specs.TypeRules.{IsViolatedByTypes}
 use Rattle.hv_rules.specs.Rules.{IsViolatedByEvents}
 
+-- the rules in the order in which they are judged
 pub data Phase : Type 0 where
   NamePhase : Phase
   TypePhase : Phase

@@ -26,6 +26,7 @@ pub data Belongs : Type 0 where
   -- an end: the locals whose value is written back there, the handles whose block ends, and whether a result is missing
   ToEnd : List ℕ → List ℕ → Bool → Belongs
 
+-- an event, its place, and what it belongs to
 pub record Mark : Type 0 where
   pub event : FlowEvent
   pub place : Place
@@ -34,9 +35,11 @@ pub record Mark : Type 0 where
 abbrev pub Events : Type 0
 Events = Flow Mark
 
+-- an event by itself
 abbrev pub mark : FlowEvent → Place → Mark
 mark e at = record { event = e; place = at; belongs = ToNothing }
 
+-- an event that the declaration of local n makes
 abbrev pub declaring : ℕ → FlowEvent → Place → Mark
 declaring n e at = record { event = e; place = at; belongs = ToDeclaration n }
 
@@ -62,6 +65,7 @@ writes p at = mark (event.OpenWrite p) at
 abbrev pub sets : Doing
 sets p at = mark (event.OpenSet p) at
 
+-- all of local n
 abbrev pub whole : ℕ → StaticPath
 whole n = record { root = n; steps = [] }
 
@@ -85,14 +89,17 @@ index_step (Lambda at captures params result body) = static.Any
 index_step (Prefix at o x) = static.Any
 index_step (Chain at first links) = static.Any
 
+-- the field of something of this type
 abbrev pub field_at : Core → Option ValueType → Name → Option FieldAt
 field_at tree None name = None
 field_at tree (Some t) name = field_of tree t name.text
 
+-- the elements of something of this type
 abbrev pub element_at : Option ValueType → Option ValueType
 element_at None = None
 element_at (Some t) = element_of t
 
+-- the type of a field
 abbrev pub type_at : Option FieldAt → Option ValueType
 type_at None = None
 type_at (Some f) = Some f.ty
@@ -122,9 +129,11 @@ pub data Callee : Type 0 where
   Constructs : Callee
   Takes : List Conv → Callee
 
+-- the convention of a parameter
 abbrev pub conv_of_param : CoreParam → Conv
 conv_of_param p = p.conv
 
+-- a local as callee
 abbrev pub by_type : Option ValueType → Callee
 by_type None = Constructs
 by_type (Some IntType) = Constructs
@@ -134,10 +143,12 @@ by_type (Some (ArrayType t)) = Constructs
 by_type (Some (FunType params)) = Takes (convs_of params)
 by_type (Some (FunToType params t)) = Takes (convs_of params)
 
+-- a top-level name as callee; what is no function is a struct
 abbrev pub by_function : Option CoreFun → Callee
 by_function None = Constructs
 by_function (Some f) = Takes (map conv_of_param f.params)
 
+-- a callee, whose root may be a local
 abbrev pub callee_by : Core → Option Local → Name → CoreSteps → Callee
 callee_by tree None root steps = by_function (fun_in tree.decls root.text)
 callee_by tree (Some l) root steps = by_type (type_behind tree l.ty steps)
@@ -155,6 +166,7 @@ other_convs (Takes (c ∷ cs)) = Takes cs
 
 -- ---- arguments
 
+-- how arguments are passed
 pub data Way : Type 0 where
   -- its accesses close at its end, last first
   ByCall : Way
@@ -195,6 +207,7 @@ with_close BySpawn true at others = Then (Do (mark event.Close at)) others
 
 -- ---- expressions
 
+-- the operator may stop before its right operand
 abbrev pub is_short : Operator → Bool
 is_short operator.And = true
 is_short operator.Or = true
@@ -218,9 +231,11 @@ linked o rest = if is_short o then Either Skip rest else rest
 
 -- in a program, in a body with these locals
 module _ (tree : Core) (locals : List Local) where
+  -- the local with the name
   abbrev pub local_of : Name → Option Local
   local_of name = local_in locals name.text
 
+  -- whether there is a local
   abbrev pub is_local : Option ℕ → Bool
   is_local None = false
   is_local (Some n) = true
@@ -239,6 +254,7 @@ module _ (tree : Core) (locals : List Local) where
   is_place (Prefix at o x) = false
   is_place (Chain at first links) = false
 
+  -- whether an argument without `&` opens an access
   abbrev pub opens_place : Way → Option Conv → CoreExpr → Bool
   opens_place way c x = if opens way c then is_place x else false
 
@@ -247,10 +263,12 @@ module _ (tree : Core) (locals : List Local) where
   on_root does None root steps = Skip
   on_root does (Some n) root steps = Do (does (record { root = n; steps = static_steps tree (value_of (local_of root)) steps }) root.place)
 
+  -- the event of a handle, where the name is that of one
   abbrev pub on_handle : (ℕ → FlowEvent) → Option ℕ → Place → Events
   on_handle e None at = Skip
   on_handle e (Some h) at = Do (mark (e h) at)
 
+  -- an await
   abbrev pub awaited : Name → Place → Events
   awaited name at = on_handle event.Await (number_in locals name.text) at
 
@@ -259,6 +277,7 @@ module _ (tree : Core) (locals : List Local) where
   captured [] = Skip
   captured (name ∷ names) = Then (on_root uses (number_in locals name.text) name NoSteps) (captured names)
 
+  -- the callee of a call
   abbrev pub callee_of : Name → CoreSteps → Callee
   callee_of root steps = callee_by tree (local_of root) root steps
 
@@ -277,10 +296,12 @@ module _ (tree : Core) (locals : List Local) where
     expr_events does (Prefix at o x) = expr_events uses x
     expr_events does (Chain at first links) = Then (expr_events uses first) (link_events links)
 
+    -- elements, in order
     pub part_events : CoreExprs → Events
     part_events NoExprs = Skip
     part_events (ExprOf x rest) = Then (expr_events uses x) (part_events rest)
 
+    -- the operands behind the first
     pub link_events : CoreLinks → Events
     link_events NoLinks = Skip
     link_events (LinkOf o at x rest) = linked o (Then (expr_events uses x) (link_events rest))
@@ -296,6 +317,7 @@ module _ (tree : Core) (locals : List Local) where
     call_events way (CallOf root steps at args) =
         Then (Then (index_events steps) (on_root uses (number_in locals root.text) root steps)) (arg_events way at (callee_of root steps) args)
 
+    -- the arguments, in order, and the Close of what each opened
     pub arg_events : Way → Place → Callee → CoreArgs → Events
     arg_events way at callee NoArgs = Skip
     arg_events way at callee (ValueArg x rest) =
@@ -304,9 +326,11 @@ module _ (tree : Core) (locals : List Local) where
         Then (Then (index_events steps) (on_root (lent (next_conv callee)) (number_in locals root.text) root steps))
         (with_close way (is_local (number_in locals root.text)) at (arg_events way at (other_convs callee) rest))
 
+  -- an expression whose value is used
   abbrev pub value_events : CoreExpr → Events
   value_events x = expr_events uses x
 
+  -- a place: its indices, and what is done with it
   abbrev pub place_events : Doing → Name → CoreSteps → Events
   place_events does root steps = Then (index_events steps) (on_root does (number_in locals root.text) root steps)
 
@@ -320,6 +344,7 @@ pub record Around : Type 0 where
   -- the handles of the blocks around, also those declared behind
   pub handles : List ℕ
 
+-- whether the value of such a local is written back at its end
 abbrev pub is_written_back : LocalKind → Bool
 is_written_back Captured = false
 is_written_back (Passed conv.Let) = false
@@ -331,6 +356,7 @@ is_written_back LetBound = false
 is_written_back InoutBound = true
 is_written_back Handle = false
 
+-- whether such a local is a handle
 abbrev pub is_handle : LocalKind → Bool
 is_handle Captured = false
 is_handle (Passed c) = false
@@ -354,25 +380,31 @@ abbrev pub kind_from : (LocalKind → Bool) → ℕ → List Local → List ℕ
 kind_from is n [] = []
 kind_from is n (l ∷ ls) = if_kind is n (Some l) ++ kind_from is (suc n) ls
 
+-- what is around the statements behind this one
 abbrev pub behind : CoreStmt → Around → Around
 behind x s = record { next = s.next + length (declared_in x); back = if_kind is_written_back s.next (binds x) ++ s.back; handles = s.handles }
 
+-- what is around what follows this block
 abbrev pub behind_block : CoreBlock → Around → Around
 behind_block b s = record { next = s.next + length (in_block b); back = s.back; handles = s.handles }
 
+-- what is around the statements of a block
 abbrev pub entered : CoreStmts → Around → Around
 entered stmts s = record { next = s.next; back = s.back; handles = own is_handle s.next stmts ++ s.handles }
 
 -- ---- statements
 
 module _ (tree : Core) (locals : List Local) where
+  -- a return, which ends all that is around it
   abbrev pub return_at : Around → Place → Events
   return_at s at = Stop (record { event = event.Return; place = at; belongs = ToEnd s.back s.handles false })
 
+  -- the end of a block
   abbrev pub scope_end : Around → CoreStmts → Place → Events
   scope_end s stmts at = Do (record { event = event.ScopeEnd s.next; place = at; belongs = ToEnd (own is_written_back s.next stmts) (own is_handle s.next stmts) false })
 
   abbrev mutual
+    -- the events of a statement
     pub stmt_events : Around → CoreStmt → Events
     stmt_events s (Var at name t) = Do (mark (event.Declare s.next) name.place)
     stmt_events s (VarWith at name t x) = Then (value_events tree locals x) (declared s.next name)
@@ -397,15 +429,18 @@ module _ (tree : Core) (locals : List Local) where
     branch_events s (BranchOf test body rest) =
         Then (value_events tree locals test) (Either (block_events s body) (branch_events (behind_block body s) rest))
 
+    -- a block: its statements, and its end
     pub block_events : Around → CoreBlock → Events
     block_events s (BlockOf stmts end) = Then (stmts_events (entered stmts s) stmts) (scope_end s stmts end)
 
+    -- statements, in order
     pub stmts_events : Around → CoreStmts → Events
     stmts_events s NoStmts = Skip
     stmts_events s (StmtOf x rest) = Then (stmt_events s x) (stmts_events (behind x s) rest)
 
 -- ---- bodies
 
+-- a capture or parameter
 abbrev pub entry_event : ℕ → LocalKind → Name → Events
 entry_event n (Passed conv.Set) name = Do (mark (event.Declare n) name.place)
 entry_event n (Passed conv.Let) name = declared n name
@@ -422,16 +457,20 @@ abbrev pub entry_events : ℕ → List Local → Events
 entry_events n [] = Skip
 entry_events n (l ∷ ls) = Then (entry_event n l.kind l.name) (entry_events (suc n) ls)
 
+-- whether there is one
 abbrev pub has_some : {A : Type 0} → Option A → Bool
 has_some None = false
 has_some (Some a) = true
 
+-- the place of the `}`
 abbrev pub end_of : CoreBlock → Place
 end_of (BlockOf stmts end) = end
 
+-- the statements of a block
 abbrev pub stmts_in : CoreBlock → CoreStmts
 stmts_in (BlockOf stmts end) = stmts
 
+-- what is around the statements of a body
 abbrev pub body_around : CoreBody → Around
 body_around body = record { next = length (entry_locals body); back = kind_from is_written_back 0 (entry_locals body); handles = own is_handle (length (entry_locals body)) (stmts_in body.block) }
 

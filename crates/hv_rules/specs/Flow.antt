@@ -1,6 +1,7 @@
 -- What a body may do, as events in order, and its traces.
 use Rattle.std.specs.Prelude.{◌≡◌, ◌⊎◌, List, [], ◌∷◌, ◌++◌}
 
+-- what may happen, as six words
 pub data Flow (E : Type 0) : Type 0 where
   -- nothing happens
   Skip : Flow E

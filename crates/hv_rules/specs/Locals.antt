@@ -8,6 +8,7 @@ use Rattle.hv_rules.specs.Types.{ValueType, meant, option_meant}
 
 -- ---- locals
 
+-- what a local is
 pub data LocalKind : Type 0 where
   Captured : LocalKind
   Passed : Conv → LocalKind
@@ -22,9 +23,11 @@ pub record Local : Type 0 where
   pub kind : LocalKind
   pub ty : Option ValueType
 
+-- a local whose type is written
 abbrev pub local : LocalKind → Name → CoreTy → Local
 local kind name t = record { name = name; kind = kind; ty = Some (meant t) }
 
+-- a parameter as a local
 abbrev pub param_local : CoreParam → Local
 param_local p = local (Passed p.conv) p.name p.ty
 
@@ -45,6 +48,7 @@ binds (AwaitsAlone at name) = None
 binds (CallsAlone at call) = None
 binds (Bare at block) = None
 
+-- a list of one or none
 abbrev pub listed : {A : Type 0} → Option A → List A
 listed None = []
 listed (Some a) = a ∷ []
@@ -96,6 +100,7 @@ entry_locals body = body.captures ++ map param_local body.params
 abbrev pub locals_of : CoreBody → List Local
 locals_of body = entry_locals body ++ in_block body.block
 
+-- the body of a function
 abbrev pub fun_body : CoreFun → CoreBody
 fun_body f = record { captures = []; params = f.params; result = f.result; block = f.body }
 
@@ -104,9 +109,11 @@ abbrev pub number_from : ℕ → List Local → List ℕ → Option ℕ
 number_from n [] text = None
 number_from n (l ∷ ls) text = if bytes_eq l.name.text text then Some n else number_from (suc n) ls text
 
+-- the number of the local with the name
 abbrev pub number_in : List Local → List ℕ → Option ℕ
 number_in locals text = number_from 0 locals text
 
+-- the first local with the name
 abbrev pub local_in : List Local → List ℕ → Option Local
 local_in [] text = None
 local_in (l ∷ ls) text = if bytes_eq l.name.text text then Some l else local_in ls text
@@ -120,6 +127,7 @@ value_by LetBound t = t
 value_by InoutBound t = t
 value_by Handle t = None
 
+-- the type of a local that is a value
 abbrev pub value_of : Option Local → Option ValueType
 value_of None = None
 value_of (Some l) = value_by l.kind l.ty

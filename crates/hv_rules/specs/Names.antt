@@ -11,13 +11,16 @@ use Rattle.hv_rules.specs.Sites.{Part, ExprPart, CallPart, PlacePart, StmtPart, 
 
 -- ---- declared twice
 
+-- the name of a declaration
 abbrev pub decl_name : CoreDecl → Name
 decl_name (StructOf s) = s.name
 decl_name (FunOf f) = f.name
 
+-- the name of a field
 abbrev pub field_name : CoreField → Name
 field_name f = f.name
 
+-- the name of a local
 abbrev pub local_name : Local → Name
 local_name l = l.name
 
@@ -48,6 +51,7 @@ pub record SharesName (tree : Core) (place : Place) : Type 0 where
   pub later : (Named (map decl_name (before ++ decl ∷ [])) local.name.text × (local.name.place ≡ place)) ⊎
       ((n : Name) × Contains (map decl_name after) n × (n.text ≡ local.name.text) × (n.place ≡ place))
 
+-- a name is declared a second time
 pub data ViolatesN1 (tree : Core) (place : Place) : Type 0 where
   top_level : Repeats (map decl_name tree.decls) place → ViolatesN1 tree place
   of_fields : (s : CoreStruct) → Contains tree.decls (StructOf s) → Repeats (map field_name s.fields) place → ViolatesN1 tree place
@@ -66,17 +70,21 @@ abbrev mutual
   names_in (FunTy at params) = names_of params
   names_in (FunToTy at params result) = names_of params ++ names_in result
 
+  -- the names in the types of parameters
   pub names_of : CoreTys → List Name
   names_of NoTys = []
   names_of (TyOf c t rest) = names_in t ++ names_of rest
 
+-- the names in types
 abbrev pub names_in_all : List CoreTy → List Name
 names_in_all [] = []
 names_in_all (t ∷ ts) = names_in t ++ names_in_all ts
 
+-- the type of a parameter as it is written
 abbrev pub param_type : CoreParam → CoreTy
 param_type p = p.ty
 
+-- the type of a field as it is written
 abbrev pub field_type : CoreField → CoreTy
 field_type f = f.ty
 
@@ -85,6 +93,7 @@ abbrev pub types_of_decl : CoreDecl → List CoreTy
 types_of_decl (StructOf s) = map field_type s.fields
 types_of_decl (FunOf f) = map param_type f.params ++ listed f.result
 
+-- the types that a statement writes itself
 abbrev pub types_of_stmt : CoreStmt → List CoreTy
 types_of_stmt (Var at name t) = t ∷ []
 types_of_stmt (VarWith at name t x) = t ∷ []
@@ -93,6 +102,7 @@ types_of_stmt (Inout at name t root steps) = t ∷ []
 types_of_stmt (Task at name t spawn budget call) = listed t
 types_of_stmt _ = []
 
+-- the types that an expression writes itself
 abbrev pub types_of_expr : CoreExpr → List CoreTy
 types_of_expr (Lambda at captures params result body) = map param_type params ++ listed result
 types_of_expr _ = []
@@ -126,6 +136,7 @@ abbrev pub captured_by_expr : CoreExpr → List Name
 captured_by_expr (Lambda at captures params result body) = captures
 captured_by_expr _ = []
 
+-- the names that a part captures
 abbrev pub captured_by : Part → List Name
 captured_by (ExprPart x) = captured_by_expr x
 captured_by (CallPart call) = []
@@ -145,6 +156,7 @@ NoLocal visible name = local_in visible name.text ≡ None
 abbrev pub NothingVisible : Core → List Local → Name → Type 0
 NothingVisible tree visible name = NoLocal visible name × (Named (map decl_name tree.decls) name.text → ⊥)
 
+-- a name stands for nothing that it could
 pub data ViolatesN2 (tree : Core) (place : Place) : Type 0 where
   in_decl : (d : CoreDecl) (n : Name) → Contains tree.decls d → Contains (names_in_all (types_of_decl d)) n → NoStruct tree n → n.place ≡ place → ViolatesN2 tree place
   in_type : (w : Site) (n : Name) → Contains (sites_of tree) w → Contains (names_in_all (types_of w.part)) n → NoStruct tree n → n.place ≡ place → ViolatesN2 tree place
@@ -161,6 +173,7 @@ HasMain tree = (f : CoreFun) × Contains tree.decls (FunOf f) × (f.name.text �
 abbrev pub ViolatesN3 : Core → Place → Type 0
 ViolatesN3 tree place = (HasMain tree → ⊥) × (place.start ≡ 0)
 
+-- the program violates this rule of names there
 abbrev pub IsViolatedByNames : Core → Rule → Place → Type 0
 IsViolatedByNames tree rule.N1 place = ViolatesN1 tree place
 IsViolatedByNames tree rule.N2 place = ViolatesN2 tree place

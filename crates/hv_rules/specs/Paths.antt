@@ -30,12 +30,14 @@ Overlap a b = (a.root ≡ b.root) × (IsPrefix a.steps b.steps ⊎ IsPrefix b.st
 
 -- ---- as the code computes it
 
+-- two numbers are equal
 abbrev pub same_int : ℤ → ℤ → Bool
 same_int (pos x) (pos y) = x == y
 same_int (pos x) (negsuc y) = false
 same_int (negsuc x) (pos y) = false
 same_int (negsuc x) (negsuc y) = x == y
 
+-- the test of two steps
 abbrev pub compatible : StaticStep → StaticStep → Bool
 compatible (step.Field x) (step.Field y) = x == y
 compatible (step.Field x) (step.Literal y) = false
@@ -47,6 +49,7 @@ compatible step.Any (step.Field y) = false
 compatible step.Any (step.Literal y) = true
 compatible step.Any step.Any = true
 
+-- one list is a prefix of the other
 abbrev pub steps_meet : List StaticStep → List StaticStep → Bool
 steps_meet [] ys = true
 steps_meet (x ∷ xs) [] = true

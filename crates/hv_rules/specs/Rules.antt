@@ -19,10 +19,12 @@ use Rattle.hv_rules.specs.States.{fields_of, has_index, is_front, Access, Readin
 
 -- ---- the leaves of a local
 
+-- the leaves of a type, which may be unknown
 abbrev pub leaves_by : Core → Option ValueType → List (List ℕ)
 leaves_by tree None = [] ∷ []
 leaves_by tree (Some t) = leaves_of tree t
 
+-- the leaves of the local with this number
 abbrev pub leaves_from : Core → List Local → ℕ → List (List ℕ)
 leaves_from tree [] n = []
 leaves_from tree (l ∷ ls) zero = leaves_by tree l.ty
@@ -46,6 +48,7 @@ asks_whole (event.Await h) = None
 asks_whole event.Return = None
 asks_whole (event.ScopeEnd n) = None
 
+-- the path, unless a declaration makes the event
 abbrev pub unless_declaring : Belongs → StaticPath → Option StaticPath
 unless_declaring ToNothing p = Some p
 unless_declaring (ToDeclaration n) p = None
@@ -106,9 +109,11 @@ module _ (tree : Core) (body : CoreBody) (s : State) where
   abbrev pub HasHole : ℕ → List ℕ → Type 0
   HasHole root fields = (leaf : List ℕ) × Contains (leaves_from tree (locals_of body) root) leaf × (is_front fields leaf ≡ true) × (s.filled (record { root = root; fields = leaf }) ≡ false)
 
+  -- an open access overlaps the path
   abbrev pub Clashes : StaticPath → Type 0
   Clashes p = (a : Access) × Contains s.accesses a × Overlap p a.path
 
+  -- an open write or set access overlaps the path
   abbrev pub ClashesWithChange : StaticPath → Type 0
   ClashesWithChange p = (a : Access) × Contains s.accesses a × Overlap p a.path × (a.mode ≢ Reading)
 
@@ -171,6 +176,7 @@ pub record IsViolatedIn (tree : Core) (body : CoreBody) (r : Rule) (place : Plac
 abbrev pub Changes : Conv → Type 0
 Changes c = (c ≡ conv.Inout) ⊎ (c ≡ conv.Set)
 
+-- the conventions of a callee
 abbrev pub convs_or_none : Callee → List Conv
 convs_or_none Constructs = []
 convs_or_none (Takes cs) = cs
@@ -185,6 +191,7 @@ abbrev pub SpawnsChange : Core → Scope → CoreStmt → Place → Type 0
 SpawnsChange tree s (Task at name t spawn budget call) place = TakesChange tree s call place
 SpawnsChange tree s _ place = ⊥
 
+-- the part is such a task
 abbrev pub ViolatesS3 : Core → Scope → Part → Place → Type 0
 ViolatesS3 tree s (StmtPart x) place = SpawnsChange tree s x place
 ViolatesS3 tree s (ExprPart x) place = ⊥

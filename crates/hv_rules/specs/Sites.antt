@@ -6,6 +6,7 @@ use Rattle.hv_rules.specs.Locals.{Captured, Local, binds, listed, CoreBody, fun_
 
 -- ---- parts that rules speak of
 
+-- a part of a body
 pub data Part : Type 0 where
   -- an expression, wherever it stands
   ExprPart : CoreExpr → Part
@@ -23,10 +24,12 @@ pub record Scope : Type 0 where
   -- the result of the body
   pub result : Option CoreTy
 
+-- a part where it stands
 pub record Site : Type 0 where
   pub scope : Scope
   pub part : Part
 
+-- the part in this scope
 abbrev pub site : Scope → Part → Site
 site scope part = record { scope = scope; part = part }
 
@@ -44,6 +47,7 @@ capture_local around name = record { name = name; kind = Captured; ty = value_of
 abbrev pub lambda_body : Scope → List Name → List CoreParam → Option CoreTy → CoreBlock → CoreBody
 lambda_body s captures params result block = record { captures = map (capture_local s.visible) captures; params = params; result = result; block = block }
 
+-- what a body sees at its beginning
 abbrev pub body_scope : CoreBody → Scope
 body_scope body = record { visible = entry_locals body; result = body.result }
 
@@ -64,39 +68,48 @@ abbrev mutual
   expr_sites (Prefix at o x) s = site s (ExprPart (Prefix at o x)) ∷ expr_sites x s
   expr_sites (Chain at first links) s = site s (ExprPart (Chain at first links)) ∷ (expr_sites first s ++ link_sites links s)
 
+  -- those of a list of expressions
   pub exprs_sites : CoreExprs → Scope → List Site
   exprs_sites NoExprs s = []
   exprs_sites (ExprOf x rest) s = expr_sites x s ++ exprs_sites rest s
 
+  -- those of the operands of a chain
   pub link_sites : CoreLinks → Scope → List Site
   link_sites NoLinks s = []
   link_sites (LinkOf o at x rest) s = expr_sites x s ++ link_sites rest s
 
+  -- those of the indices of a place
   pub step_sites : CoreSteps → Scope → List Site
   step_sites NoSteps s = []
   step_sites (FieldStep name rest) s = step_sites rest s
   step_sites (IndexStep at x rest) s = expr_sites x s ++ step_sites rest s
 
+  -- a call: itself, its callee as a place, and its arguments
   pub call_sites : CoreCall → Scope → List Site
   call_sites (CallOf root steps at args) s = site s (CallPart (CallOf root steps at args)) ∷ (site s (PlacePart root steps) ∷ (step_sites steps s ++ arg_sites args s))
 
+  -- those of arguments; one with `&` is a place
   pub arg_sites : CoreArgs → Scope → List Site
   arg_sites NoArgs s = []
   arg_sites (ValueArg x rest) s = expr_sites x s ++ arg_sites rest s
   arg_sites (RefArg at root steps rest) s = site s (PlacePart root steps) ∷ (step_sites steps s ++ arg_sites rest s)
 
+  -- those of a block
   pub block_sites : CoreBlock → Scope → List Site
   block_sites (BlockOf stmts end) s = stmts_sites stmts s
 
+  -- each statement sees what those before it declare
   pub stmts_sites : CoreStmts → Scope → List Site
   stmts_sites NoStmts s = []
   stmts_sites (StmtOf x rest) s = stmt_sites x s ++ stmts_sites rest (scope_behind x s)
 
+  -- those of the tests and blocks of an `if`
   pub branch_sites : CoreBranches → Scope → List Site
   branch_sites NoElse s = []
   branch_sites (Else block) s = block_sites block s
   branch_sites (BranchOf test body rest) s = site s (TestPart test) ∷ (expr_sites test s ++ (block_sites body s ++ branch_sites rest s))
 
+  -- those of a statement
   pub stmt_sites : CoreStmt → Scope → List Site
   stmt_sites (Var at name t) s = site s (StmtPart (Var at name t)) ∷ []
   stmt_sites (VarWith at name t x) s = site s (StmtPart (VarWith at name t x)) ∷ expr_sites x s
@@ -115,9 +128,11 @@ abbrev mutual
 
 -- ---- bodies
 
+-- the sites of a body and of the lambdas in it
 abbrev pub sites_of_body : CoreBody → List Site
 sites_of_body body = block_sites body.block (body_scope body)
 
+-- the sites of declarations
 abbrev pub decl_sites : List CoreDecl → List Site
 decl_sites [] = []
 decl_sites (StructOf c ∷ rest) = decl_sites rest
@@ -141,6 +156,7 @@ body_by_expr s (Lambda at captures params result body) = lambda_body s captures 
 body_by_expr s (Prefix at o x) = []
 body_by_expr s (Chain at first links) = []
 
+-- the body of a part that is a lambda
 abbrev pub body_by : Scope → Part → List CoreBody
 body_by s (ExprPart x) = body_by_expr s x
 body_by s (CallPart call) = []
@@ -148,10 +164,12 @@ body_by s (PlacePart root steps) = []
 body_by s (StmtPart x) = []
 body_by s (TestPart x) = []
 
+-- the bodies of the lambdas at these sites
 abbrev pub lambdas_at : List Site → List CoreBody
 lambdas_at [] = []
 lambdas_at (w ∷ rest) = body_by w.scope w.part ++ lambdas_at rest
 
+-- the bodies of declarations
 abbrev pub decl_bodies : List CoreDecl → List CoreBody
 decl_bodies [] = []
 decl_bodies (StructOf c ∷ rest) = decl_bodies rest

@@ -21,12 +21,14 @@ fields_of (step.Field f ∷ steps) = f ∷ fields_of steps
 fields_of (step.Literal n ∷ steps) = []
 fields_of (step.Any ∷ steps) = []
 
+-- whether a step is an index
 abbrev pub has_index : List StaticStep → Bool
 has_index [] = false
 has_index (step.Field f ∷ steps) = has_index steps
 has_index (step.Literal n ∷ steps) = true
 has_index (step.Any ∷ steps) = true
 
+-- whether the first list is a front of the second
 abbrev pub is_front : List ℕ → List ℕ → Bool
 is_front [] ys = true
 is_front (x ∷ xs) [] = false
@@ -38,6 +40,7 @@ covers p l = (p.root == l.root) && is_front (fields_of p.steps) l.fields
 
 -- ---- the parts of a state
 
+-- what an access may do
 pub data Mode : Type 0 where
   Reading : Mode
   Writing : Mode
@@ -49,11 +52,13 @@ pub record Access : Type 0 where
   pub mode : Mode
   pub binding : Option ℕ
 
+-- what has become of a handle
 pub data HandleState : Type 0 where
   NotSpawned : HandleState
   Spawned : HandleState
   Awaited : HandleState
 
+-- the initialised leaves, the open accesses and the handles
 pub record State : Type 0 where
   pub filled : Leaf → Bool
   -- the newest first
@@ -66,19 +71,23 @@ pub record State : Type 0 where
 abbrev pub changed : StaticPath → Bool → (Leaf → Bool) → Leaf → Bool
 changed p value filled = λ l. if covers p l && not (has_index p.steps) then value else filled l
 
+-- local n has no initialised leaf
 abbrev pub emptied : ℕ → (Leaf → Bool) → Leaf → Bool
 emptied n filled = λ l. if n == l.root then false else filled l
 
 -- ---- open accesses
 
+-- the binding that an access belongs to
 abbrev pub binding_of : Belongs → Option ℕ
 binding_of ToNothing = None
 binding_of (ToDeclaration n) = Some n
 binding_of (ToEnd back handles missing) = None
 
+-- one access more
 abbrev pub opened : StaticPath → Mode → Belongs → List Access → List Access
 opened p mode of accesses = record { path = p; mode = mode; binding = binding_of of } ∷ accesses
 
+-- this access, or the other one where it belongs to a binding
 abbrev pub unless_bound : Access → Option ℕ → Option Access → Option Access
 unless_bound a None other = Some a
 unless_bound a (Some n) other = other
@@ -88,6 +97,7 @@ abbrev pub last_called : List Access → Option Access
 last_called [] = None
 last_called (a ∷ accesses) = unless_bound a a.binding (last_called accesses)
 
+-- the accesses without this one, or with it where it belongs to a binding
 abbrev pub dropped_or_kept : Access → Option ℕ → List Access → List Access → List Access
 dropped_or_kept a None accesses others = accesses
 dropped_or_kept a (Some n) accesses others = a ∷ others
@@ -103,10 +113,12 @@ filled_by p Reading filled = filled
 filled_by p Writing filled = filled
 filled_by p Setting filled = changed p true filled
 
+-- what the closing access fills
 abbrev pub filled_at_close : Option Access → (Leaf → Bool) → Leaf → Bool
 filled_at_close None filled = filled
 filled_at_close (Some a) filled = filled_by a.path a.mode filled
 
+-- whether an access outlives the locals from n on
 abbrev pub stays : ℕ → Option ℕ → Bool
 stays n None = true
 stays n (Some b) = nat_lt b n
@@ -117,20 +129,25 @@ without_bindings n accesses = filter (λ a. stays n a.binding) accesses
 
 -- ---- handles
 
+-- handle h becomes this, and the others stay
 abbrev pub with_handle : ℕ → HandleState → (ℕ → HandleState) → ℕ → HandleState
 with_handle h to handles = λ k. if h == k then to else handles k
 
 -- ---- one event, and a list of them
 
+-- the state with other leaves
 abbrev pub filling : State → (Leaf → Bool) → State
 filling s filled = record { filled = filled; accesses = s.accesses; handles = s.handles }
 
+-- the state with one access more
 abbrev pub opening : StaticPath → Mode → Belongs → State → State
 opening p mode of s = record { filled = s.filled; accesses = opened p mode of s.accesses; handles = s.handles }
 
+-- the state with a handle changed
 abbrev pub handling : ℕ → HandleState → State → State
 handling h to s = record { filled = s.filled; accesses = s.accesses; handles = with_handle h to s.handles }
 
+-- what an event does
 abbrev pub after_event : FlowEvent → Belongs → State → State
 after_event event.Entry of s = s
 after_event (event.Declare n) of s = filling s (emptied n s.filled)
@@ -146,16 +163,20 @@ after_event (event.Await h) of s = handling h Awaited s
 after_event event.Return of s = s
 after_event (event.ScopeEnd n) of s = record { filled = s.filled; accesses = without_bindings n s.accesses; handles = s.handles }
 
+-- what a mark does
 abbrev pub after : Mark → State → State
 after m s = after_event m.event m.belongs s
 
+-- what a list of marks does
 abbrev pub after_all : List Mark → State → State
 after_all [] s = s
 after_all (m ∷ ms) s = after_all ms (after m s)
 
+-- before the first event
 abbrev pub start : State
 start = record { filled = λ l. false; accesses = []; handles = λ h. NotSpawned }
 
+-- what a list of marks leaves
 abbrev pub state_after : List Mark → State
 state_after ms = after_all ms start
 

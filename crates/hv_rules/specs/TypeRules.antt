@@ -62,11 +62,13 @@ pub data HoldsFunction (tree : Core) : ValueType → Type 0 where
   in_element : {t : ValueType} (element : ValueType) → t ≡ ArrayType element → HoldsFunction tree element → HoldsFunction tree t
   in_field : {t : ValueType} (s : List ℕ) (field : ValueType) → t ≡ StructType s → Contains (field_types tree s) field → HoldsFunction tree field → HoldsFunction tree t
 
+-- it is known that there are function values in it
 abbrev pub KnownToHold : Core → Known → Type 0
 KnownToHold tree Unknown = ⊥
 KnownToHold tree Nothing = ⊥
 KnownToHold tree (Is t) = HoldsFunction tree t
 
+-- a written result, which may lack
 abbrev pub result_known : Option CoreTy → Known
 result_known t = or_nothing (option_meant t)
 
@@ -80,10 +82,12 @@ abbrev pub NoValue : Option Local → Type 0
 NoValue None = Unit {0}
 NoValue (Some l) = IsHandleKind l.kind
 
+-- the name is that of no handle
 abbrev pub NoHandle : Option Local → Type 0
 NoHandle None = Unit {0}
 NoHandle (Some l) = IsHandleKind l.kind → ⊥
 
+-- the name is that of a handle
 abbrev pub IsHandle : Option Local → Type 0
 IsHandle None = ⊥
 IsHandle (Some l) = IsHandleKind l.kind
@@ -97,18 +101,16 @@ IsReadOnlyKind LetBound = Unit {0}
 IsReadOnlyKind InoutBound = ⊥
 IsReadOnlyKind Handle = ⊥
 
+-- the name is that of a local that may only be read
 abbrev pub IsReadOnly : Option Local → Type 0
 IsReadOnly None = ⊥
 IsReadOnly (Some l) = IsReadOnlyKind l.kind
 
+-- a struct has the name
 abbrev pub IsStructName : Core → Name → Type 0
 IsStructName tree name = struct_in tree.decls name.text ≢ None
 
-abbrev pub HasSteps : CoreSteps → Type 0
-HasSteps NoSteps = ⊥
-HasSteps (FieldStep name rest) = Unit {0}
-HasSteps (IndexStep at x rest) = Unit {0}
-
+-- a step is an index
 abbrev pub HasIndex : CoreSteps → Type 0
 HasIndex NoSteps = ⊥
 HasIndex (FieldStep name rest) = HasIndex rest
@@ -117,9 +119,11 @@ HasIndex (IndexStep at x rest) = Unit {0}
 -- ---- the rules, each of a part with its place
 
 module _ (tree : Core) (scope : Scope) (place : Place) where
+  -- the visible local with the name
   abbrev pub local_named : Name → Option Local
   local_named name = local_in scope.visible name.text
 
+  -- the type of an expression that stands here
   abbrev pub type_here : CoreExpr → Known
   type_here x = type_of tree scope.visible x
 
@@ -133,6 +137,7 @@ module _ (tree : Core) (scope : Scope) (place : Place) where
 
   -- ---- T1, the type that a position asks for
 
+  -- a known type that is no array
   abbrev pub NoArray : Option ValueType → Type 0
   NoArray None = ⊥
   NoArray (Some t) = element_of t ≡ None
@@ -159,10 +164,12 @@ module _ (tree : Core) (scope : Scope) (place : Place) where
   OperandMisfits first (LinkOf o at x rest) =
       Wrong (operand_type o) x ⊎ (IsEquality o × Here at × Differ (type_here first) (type_here x)) ⊎ OperandMisfits x rest
 
+  -- the first operand, or one behind it
   abbrev pub ChainMisfits : CoreExpr → CoreLinks → Type 0
   ChainMisfits first NoLinks = ⊥
   ChainMisfits first (LinkOf o at x rest) = Wrong (operand_type o) first ⊎ OperandMisfits first (LinkOf o at x rest)
 
+  -- an argument of another type than what it is for
   abbrev pub ArgMisfits : List Wanted → CoreArgs → Type 0
   ArgMisfits wanted NoArgs = ⊥
   ArgMisfits [] (ValueArg x rest) = ⊥
@@ -170,10 +177,12 @@ module _ (tree : Core) (scope : Scope) (place : Place) where
   ArgMisfits (w ∷ ws) (ValueArg x rest) = Wrong (Some w.ty) x ⊎ ArgMisfits ws rest
   ArgMisfits (w ∷ ws) (RefArg at root steps rest) = (Here root.place × Other w.ty (place_type tree scope.visible root steps)) ⊎ ArgMisfits ws rest
 
+  -- the same of a call
   abbrev pub CallMisfits : Signature → CoreArgs → Type 0
   CallMisfits NoSignature args = ⊥
   CallMisfits (Signed wanted t) args = ArgMisfits wanted args
 
+  -- what is called is known and gives something else
   abbrev pub SignatureDiffers : Known → Signature → Type 0
   SignatureDiffers t NoSignature = ⊥
   SignatureDiffers t (Signed wanted u) = Differ t u
@@ -194,6 +203,7 @@ module _ (tree : Core) (scope : Scope) (place : Place) where
   ReturnMisfits None x = Here (expr_place x)
   ReturnMisfits (Some t) x = Wrong (Some (meant t)) x
 
+  -- in an expression
   abbrev pub ExprT1 : CoreExpr → Type 0
   ExprT1 (Array at xs) = ElementMisfits (first_type tree scope.visible xs) xs
   ExprT1 (Filled at len value) = Wrong (Some IntType) len ⊎ Wrong None value
@@ -202,6 +212,7 @@ module _ (tree : Core) (scope : Scope) (place : Place) where
   ExprT1 (Chain at first links) = ChainMisfits first links
   ExprT1 _ = ⊥
 
+  -- in a statement
   abbrev pub StmtT1 : CoreStmt → Type 0
   StmtT1 (VarWith at name t x) = Wrong (Some (meant t)) x
   StmtT1 (Let at name t x) = Wrong (Some (meant t)) x
@@ -213,9 +224,11 @@ module _ (tree : Core) (scope : Scope) (place : Place) where
   StmtT1 (Task at name t spawn budget call) = Wrong (Some IntType) budget ⊎ TaskMisfits t call
   StmtT1 _ = ⊥
 
+  -- in a call
   abbrev pub CallT1 : CoreCall → Type 0
   CallT1 (CallOf root steps at args) = CallMisfits (signature_of tree scope.visible root steps) args
 
+  -- something hasn't the type that its position asks for
   abbrev pub T1 : Part → Type 0
   T1 (ExprPart x) = ExprT1 x
   T1 (CallPart call) = CallT1 call
@@ -225,33 +238,40 @@ module _ (tree : Core) (scope : Scope) (place : Place) where
 
   -- ---- T2, the count of arguments
 
+  -- how many arguments there are
   abbrev pub count_of : CoreArgs → ℕ
   count_of NoArgs = 0
   count_of (ValueArg x rest) = ℕ.suc (count_of rest)
   count_of (RefArg at root steps rest) = ℕ.suc (count_of rest)
 
+  -- what is called takes more or fewer
   abbrev pub CountDiffers : Signature → CoreArgs → Type 0
   CountDiffers NoSignature args = ⊥
   CountDiffers (Signed wanted t) args = count_of args ≢ length wanted
 
+  -- at the `(`
   abbrev pub CallT2 : CoreCall → Type 0
   CallT2 (CallOf root steps at args) = CountDiffers (signature_of tree scope.visible root steps) args × Here at
 
+  -- a call has too many or too few arguments
   abbrev pub T2 : Part → Type 0
   T2 (CallPart call) = CallT2 call
   T2 _ = ⊥
 
   -- ---- T3, fields
 
+  -- what is known has no such field
   abbrev pub NoField : Option ValueType → Name → Type 0
   NoField None name = ⊥
   NoField (Some t) name = field_of tree t name.text ≡ None
 
+  -- a step behind something of this type
   abbrev pub StepsT3 : Option ValueType → CoreSteps → Type 0
   StepsT3 t NoSteps = ⊥
   StepsT3 t (FieldStep name rest) = (NoField t name × Here name.place) ⊎ StepsT3 (type_at (field_at tree t name)) rest
   StepsT3 t (IndexStep at x rest) = StepsT3 (element_at t) rest
 
+  -- a step names no field
   abbrev pub T3 : Part → Type 0
   T3 (PlacePart root steps) = StepsT3 (value_of (local_named root)) steps
   T3 _ = ⊥
@@ -268,6 +288,7 @@ module _ (tree : Core) (scope : Scope) (place : Place) where
   HasMark None = Unit {0}
   HasMark (Some c) = (c ≡ conv.Let) ⊎ (c ≡ conv.Sink)
 
+  -- an argument and what it is for
   abbrev pub MarkDiffers : List Wanted → CoreArgs → Type 0
   MarkDiffers wanted NoArgs = ⊥
   MarkDiffers [] (ValueArg x rest) = ⊥
@@ -275,13 +296,16 @@ module _ (tree : Core) (scope : Scope) (place : Place) where
   MarkDiffers (w ∷ ws) (ValueArg x rest) = (LacksMark w.conv × Here (expr_place x)) ⊎ MarkDiffers ws rest
   MarkDiffers (w ∷ ws) (RefArg at root steps rest) = (HasMark w.conv × Here at) ⊎ MarkDiffers ws rest
 
+  -- the arguments of a callee with this signature
   abbrev pub CallT5 : Signature → CoreArgs → Type 0
   CallT5 NoSignature args = ⊥
   CallT5 (Signed wanted t) args = MarkDiffers wanted args
 
+  -- the arguments of a call
   abbrev pub CallMarks : CoreCall → Type 0
   CallMarks (CallOf root steps at args) = CallT5 (signature_of tree scope.visible root steps) args
 
+  -- an argument has a `&` too many or lacks one
   abbrev pub T5 : Part → Type 0
   T5 (CallPart call) = CallMarks call
   T5 _ = ⊥
@@ -296,28 +320,34 @@ module _ (tree : Core) (scope : Scope) (place : Place) where
   abbrev pub AloneNoValue : Name → Type 0
   AloneNoValue root = Here root.place × (IsHandle (local_named root) ⊎ (NoValue (local_named root) × IsStructName tree root))
 
+  -- a place as a value
   abbrev pub ReadT6 : Name → CoreSteps → Type 0
   ReadT6 root NoSteps = AloneNoValue root
   ReadT6 root (FieldStep name rest) = RootNoValue root
   ReadT6 root (IndexStep at x rest) = RootNoValue root
 
+  -- a callee
   abbrev pub CalleeT6 : Name → CoreSteps → Type 0
   CalleeT6 root NoSteps = Here root.place × IsHandle (local_named root)
   CalleeT6 root (FieldStep name rest) = RootNoValue root
   CalleeT6 root (IndexStep at x rest) = RootNoValue root
 
+  -- an argument with `&`
   abbrev pub LentT6 : CoreArgs → Type 0
   LentT6 NoArgs = ⊥
   LentT6 (ValueArg x rest) = LentT6 rest
   LentT6 (RefArg at root steps rest) = RootNoValue root ⊎ LentT6 rest
 
+  -- an await of what is no handle
   abbrev pub AwaitT6 : Name → Type 0
   AwaitT6 name = Here name.place × NoHandle (local_named name)
 
+  -- a captured handle
   abbrev pub CaptureT6 : List Name → Type 0
   CaptureT6 [] = ⊥
   CaptureT6 (name ∷ names) = (Here name.place × IsHandle (local_named name)) ⊎ CaptureT6 names
 
+  -- in an expression
   abbrev pub ExprT6 : CoreExpr → Type 0
   ExprT6 (Path at root steps) = ReadT6 root steps
   ExprT6 (Awaits at name) = AwaitT6 name
@@ -325,15 +355,18 @@ module _ (tree : Core) (scope : Scope) (place : Place) where
   ExprT6 (Lambda at captures params result body) = CaptureT6 captures
   ExprT6 _ = ⊥
 
+  -- in a statement
   abbrev pub StmtT6 : CoreStmt → Type 0
   StmtT6 (Inout at name t root steps) = RootNoValue root
   StmtT6 (Assign at root steps x) = RootNoValue root
   StmtT6 (AwaitsAlone at name) = AwaitT6 name
   StmtT6 _ = ⊥
 
+  -- in a call
   abbrev pub CallT6 : CoreCall → Type 0
   CallT6 (CallOf root steps at args) = CalleeT6 root steps ⊎ LentT6 args
 
+  -- a name isn't used as what it is
   abbrev pub T6 : Part → Type 0
   T6 (ExprPart x) = ExprT6 x
   T6 (CallPart call) = CallT6 call
@@ -352,10 +385,12 @@ module _ (tree : Core) (scope : Scope) (place : Place) where
   MoveT7 (Path at root steps) = Here root.place × ((NoValue (local_named root) → ⊥) × (IsReadOnly (local_named root) ⊎ HasIndex steps))
   MoveT7 _ = ⊥
 
+  -- an argument without `&`
   abbrev pub ValueT7 : Option Conv → CoreExpr → Type 0
   ValueT7 (Some conv.Sink) x = MoveT7 x
   ValueT7 _ x = ⊥
 
+  -- an argument; one with `&` is changed
   abbrev pub ArgT7 : List Wanted → CoreArgs → Type 0
   ArgT7 wanted NoArgs = ⊥
   ArgT7 [] (ValueArg x rest) = ArgT7 [] rest
@@ -363,18 +398,22 @@ module _ (tree : Core) (scope : Scope) (place : Place) where
   ArgT7 (w ∷ ws) (ValueArg x rest) = ValueT7 w.conv x ⊎ ArgT7 ws rest
   ArgT7 (w ∷ ws) (RefArg at root steps rest) = RootReadOnly root ⊎ ArgT7 ws rest
 
+  -- what a callee takes, nothing where that isn't known
   abbrev pub wanted_by : Signature → List Wanted
   wanted_by NoSignature = []
   wanted_by (Signed wanted t) = wanted
 
+  -- in a call
   abbrev pub CallT7 : CoreCall → Type 0
   CallT7 (CallOf root steps at args) = ArgT7 (wanted_by (signature_of tree scope.visible root steps)) args
 
+  -- in a statement
   abbrev pub StmtT7 : CoreStmt → Type 0
   StmtT7 (Inout at name t root steps) = RootReadOnly root
   StmtT7 (Assign at root steps x) = RootReadOnly root
   StmtT7 _ = ⊥
 
+  -- what may only be read is changed or moved
   abbrev pub T7 : Part → Type 0
   T7 (CallPart call) = CallT7 call
   T7 (StmtPart x) = StmtT7 x
@@ -382,39 +421,47 @@ module _ (tree : Core) (scope : Scope) (place : Place) where
 
   -- ---- T8, callees
 
+  -- a known type that is no function type
   abbrev pub NoFunction : Option ValueType → Type 0
   NoFunction None = ⊥
   NoFunction (Some (FunType params)) = ⊥
   NoFunction (Some (FunToType params t)) = ⊥
   NoFunction (Some _) = Unit {0}
 
+  -- in a call
   abbrev pub CallT8 : CoreCall → Type 0
   CallT8 (CallOf root steps at args) = Here root.place × NoFunction (place_type tree scope.visible root steps)
 
+  -- what is called is no function
   abbrev pub T8 : Part → Type 0
   T8 (CallPart call) = CallT8 call
   T8 _ = ⊥
 
   -- ---- T9, function values
 
+  -- a side of `==` or `!=`
   abbrev pub LinkT9 : CoreExpr → CoreLinks → Type 0
   LinkT9 first NoLinks = ⊥
   LinkT9 first (LinkOf o at x rest) =
       (IsEquality o × Here at × (KnownToHold tree (type_here first) ⊎ KnownToHold tree (type_here x))) ⊎ LinkT9 x rest
 
+  -- a captured name
   abbrev pub CaptureT9 : List Name → Type 0
   CaptureT9 [] = ⊥
   CaptureT9 (name ∷ names) = (Here name.place × KnownToHold tree (known (value_of (local_named name)))) ⊎ CaptureT9 names
 
+  -- in an expression
   abbrev pub ExprT9 : CoreExpr → Type 0
   ExprT9 (Lambda at captures params result body) = CaptureT9 captures
   ExprT9 (Chain at first links) = LinkT9 first links
   ExprT9 _ = ⊥
 
+  -- in a statement
   abbrev pub StmtT9 : CoreStmt → Type 0
   StmtT9 (Print at x) = Here (expr_place x) × KnownToHold tree (type_here x)
   StmtT9 _ = ⊥
 
+  -- a value with function values in it is printed, compared or captured
   abbrev pub T9 : Part → Type 0
   T9 (ExprPart x) = ExprT9 x
   T9 (StmtPart x) = StmtT9 x
@@ -438,9 +485,11 @@ module _ (tree : Core) (scope : Scope) (place : Place) where
 abbrev pub TooGreat : Core → CoreStruct → Type 0
 TooGreat tree s = (within tree most_depth (StructType s.name.text) ≡ false) ⊎ (most_leaves < length (leaves_of tree (StructType s.name.text)))
 
+-- at the struct's name
 abbrev pub ViolatesT4 : Core → Place → Type 0
 ViolatesT4 tree place = (s : CoreStruct) × Contains tree.decls (StructOf s) × (s.name.place ≡ place) × TooGreat tree s
 
+-- the program violates this rule of types there
 pub data IsViolatedByTypes (tree : Core) (r : Rule) (place : Place) : Type 0 where
   at_part : (w : Site) → Contains (sites_of tree) w → ViolatesType tree w.scope place r w.part → IsViolatedByTypes tree r place
   at_struct : r ≡ rule.T4 → ViolatesT4 tree place → IsViolatedByTypes tree r place

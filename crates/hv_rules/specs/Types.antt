@@ -8,6 +8,7 @@ use Rattle.hv_tree.specs.Core.{Core, CoreDecl, StructOf, FunOf, CoreStruct, Core
 -- ---- types without their places
 
 mutual
+  -- a type
   pub data ValueType : Type 0 where
     IntType : ValueType
     BoolType : ValueType
@@ -18,6 +19,7 @@ mutual
     FunType : ParamTypes → ValueType
     FunToType : ParamTypes → ValueType → ValueType
 
+  -- the conventions and types of parameters
   pub data ParamTypes : Type 0 where
     NoneTaken : ParamTypes
     Taken : Conv → ValueType → ParamTypes → ParamTypes
@@ -32,10 +34,12 @@ abbrev mutual
   meant (FunTy at params) = FunType (params_meant params)
   meant (FunToTy at params result) = FunToType (params_meant params) (meant result)
 
+  -- what written parameters mean
   pub params_meant : CoreTys → ParamTypes
   params_meant NoTys = NoneTaken
   params_meant (TyOf c t rest) = Taken c (meant t) (params_meant rest)
 
+-- what a type means that may lack
 abbrev pub option_meant : Option CoreTy → Option ValueType
 option_meant None = None
 option_meant (Some t) = Some (meant t)
@@ -45,10 +49,12 @@ abbrev pub params_of : List CoreParam → ParamTypes
 params_of [] = NoneTaken
 params_of (p ∷ ps) = Taken p.conv (meant p.ty) (params_of ps)
 
+-- a function type by its parameters and its result, which may lack
 abbrev pub fun_type : ParamTypes → Option ValueType → ValueType
 fun_type params None = FunType params
 fun_type params (Some t) = FunToType params t
 
+-- the conventions of parameters
 abbrev pub convs_of : ParamTypes → List Conv
 convs_of NoneTaken = []
 convs_of (Taken c t rest) = c ∷ convs_of rest
@@ -67,10 +73,12 @@ fun_in [] text = None
 fun_in (StructOf s ∷ rest) text = fun_in rest text
 fun_in (FunOf f ∷ rest) text = if bytes_eq f.name.text text then Some f else fun_in rest text
 
+-- the fields of a struct, none where there is no struct
 abbrev pub fields_or_none : Option CoreStruct → List CoreField
 fields_or_none None = []
 fields_or_none (Some s) = s.fields
 
+-- the type of a field
 abbrev pub type_of_field : CoreField → ValueType
 type_of_field f = meant f.ty
 
@@ -85,6 +93,7 @@ pub record FieldAt : Type 0 where
   pub number : ℕ
   pub ty : ValueType
 
+-- the first field with the name, its number counted from n
 abbrev pub field_from : ℕ → List CoreField → List ℕ → Option FieldAt
 field_from n [] text = None
 field_from n (f ∷ fs) text = if bytes_eq f.name.text text then Some (record { number = n; ty = meant f.ty }) else field_from (suc n) fs text
@@ -98,6 +107,7 @@ field_of tree (ArrayType t) text = None
 field_of tree (FunType params) text = None
 field_of tree (FunToType params t) text = None
 
+-- the type of an array's elements
 abbrev pub element_of : ValueType → Option ValueType
 element_of IntType = None
 element_of BoolType = None
@@ -108,9 +118,11 @@ element_of (FunToType params t) = None
 
 -- ---- depth, leaves and shape
 
+-- the greatest depth of a struct
 abbrev pub most_depth : ℕ
 most_depth = 100
 
+-- the greatest number of leaves of a struct
 abbrev pub most_leaves : ℕ
 most_leaves = 4096
 
@@ -144,19 +156,23 @@ leaves tree (suc n) (ArrayType t) = [] ∷ []
 leaves tree (suc n) (FunType params) = [] ∷ []
 leaves tree (suc n) (FunToType params t) = [] ∷ []
 
+-- the leaves of a type
 abbrev pub leaves_of : Core → ValueType → List (List ℕ)
 leaves_of tree t = leaves tree most_depth t
 
 -- structs as they lie one in another
 mutual
+  -- a leaf, or a struct of shapes
   pub data TypeShape : Type 0 where
     LeafShape : TypeShape
     StructShape : TypeShapes → TypeShape
 
+  -- shapes in order
   pub data TypeShapes : Type 0 where
     NoShapes : TypeShapes
     ShapeOf : TypeShape → TypeShapes → TypeShapes
 
+-- the shapes of a list
 abbrev pub shapes_of : List TypeShape → TypeShapes
 shapes_of [] = NoShapes
 shapes_of (s ∷ rest) = ShapeOf s (shapes_of rest)

@@ -11,6 +11,7 @@ use Rattle.hv_rules.specs.Events.{type_behind}
 
 -- ---- what is known of a type
 
+-- the type of an expression, as far as there is one
 pub data Known : Type 0 where
   -- a part violates a rule, so that there is no type
   Unknown : Known
@@ -18,14 +19,17 @@ pub data Known : Type 0 where
   Nothing : Known
   Is : ValueType → Known
 
+-- a type that may lack
 abbrev pub known : Option ValueType → Known
 known None = Unknown
 known (Some t) = Is t
 
+-- a result that may lack
 abbrev pub or_nothing : Option ValueType → Known
 or_nothing None = Nothing
 or_nothing (Some t) = Is t
 
+-- an array of such elements
 abbrev pub array_of : Known → Known
 array_of Unknown = Unknown
 array_of Nothing = Unknown
@@ -71,6 +75,7 @@ given_type operator.Not = BoolType
 
 -- ---- names
 
+-- what an await of a local of this kind gives
 abbrev pub handle_by : LocalKind → Option ValueType → Known
 handle_by Captured t = Unknown
 handle_by (Passed c) t = Unknown
@@ -91,19 +96,23 @@ pub record Wanted : Type 0 where
   pub conv : Option Conv
   pub ty : ValueType
 
+-- what is known of a callee
 pub data Signature : Type 0 where
   -- it isn't known what the call does
   NoSignature : Signature
   -- what the call takes and gives
   Signed : List Wanted → Known → Signature
 
+-- parameters
 abbrev pub wanted_params : ParamTypes → List Wanted
 wanted_params NoneTaken = []
 wanted_params (Taken c t rest) = record { conv = Some c; ty = t } ∷ wanted_params rest
 
+-- a part of a struct
 abbrev pub wanted_field : CoreField → Wanted
 wanted_field f = record { conv = None; ty = meant f.ty }
 
+-- the signature of a function value
 abbrev pub by_value : Option ValueType → Signature
 by_value None = NoSignature
 by_value (Some IntType) = NoSignature
@@ -113,29 +122,35 @@ by_value (Some (ArrayType t)) = NoSignature
 by_value (Some (FunType params)) = Signed (wanted_params params) Nothing
 by_value (Some (FunToType params t)) = Signed (wanted_params params) (Is t)
 
+-- the signature of a struct
 abbrev pub by_struct : Option CoreStruct → Signature
 by_struct None = NoSignature
 by_struct (Some s) = Signed (map wanted_field s.fields) (Is (StructType s.name.text))
 
+-- the signature of a function, else the other one
 abbrev pub by_fun : Option CoreFun → Signature → Signature
 by_fun None other = other
 by_fun (Some f) other = Signed (wanted_params (params_of f.params)) (or_nothing (option_meant f.result))
 
+-- the signature of a top-level name
 abbrev pub by_name : Core → Name → CoreSteps → Signature
 by_name tree root NoSteps = by_fun (fun_in tree.decls root.text) (by_struct (struct_in tree.decls root.text))
 by_name tree root (FieldStep name rest) = NoSignature
 by_name tree root (IndexStep at x rest) = NoSignature
 
+-- the signature of a callee, whose root may be a local
 abbrev pub signature_by : Core → Option Local → Name → CoreSteps → Signature
 signature_by tree None root steps = by_name tree root steps
 signature_by tree (Some l) root steps = by_value (type_behind tree (value_by l.kind l.ty) steps)
 
+-- the type of a call
 abbrev pub gives : Signature → Known
 gives NoSignature = Unknown
 gives (Signed wanted t) = t
 
 -- ---- expressions
 
+-- the type of a function's name
 abbrev pub fun_value : Option CoreFun → Known
 fun_value None = Unknown
 fun_value (Some f) = Is (fun_type (params_of f.params) (option_meant f.result))
@@ -146,15 +161,18 @@ named_value tree root NoSteps = fun_value (fun_in tree.decls root.text)
 named_value tree root (FieldStep name rest) = Unknown
 named_value tree root (IndexStep at x rest) = Unknown
 
+-- the type of a place, or of a top-level name
 abbrev pub path_by : Core → Option Local → Name → CoreSteps → Known
 path_by tree None root steps = named_value tree root steps
 path_by tree (Some l) root steps = known (type_behind tree (value_by l.kind l.ty) steps)
 
+-- the type of a chain: what its first operator gives
 abbrev pub by_links : CoreLinks → Known → Known
 by_links NoLinks t = t
 by_links (LinkOf o at x rest) t = Is (given_type o)
 
 module _ (tree : Core) (visible : List Local) where
+  -- the signature of a callee
   abbrev pub signature_of : Name → CoreSteps → Signature
   signature_of root steps = signature_by tree (local_in visible root.text) root steps
 
@@ -162,10 +180,12 @@ module _ (tree : Core) (visible : List Local) where
   abbrev pub place_type : Name → CoreSteps → Option ValueType
   place_type root steps = type_behind tree (value_of (local_in visible root.text)) steps
 
+  -- the type of a call
   abbrev pub call_type : CoreCall → Known
   call_type (CallOf root steps at args) = gives (signature_of root steps)
 
   abbrev mutual
+    -- the type of an expression
     pub type_of : CoreExpr → Known
     type_of (Number at z) = Is IntType
     type_of (Truth at b) = Is BoolType
@@ -179,6 +199,7 @@ module _ (tree : Core) (visible : List Local) where
     type_of (Prefix at o x) = Is (given_type o)
     type_of (Chain at first links) = by_links links (type_of first)
 
+    -- the type of the first element
     pub first_type : CoreExprs → Known
     first_type NoExprs = Unknown
     first_type (ExprOf x rest) = type_of x
