@@ -56,7 +56,7 @@ none_repeats place r = by r.before r.again r.after r.is
     by [] again after e = cc
     by (b ∷ before) again after e = cc
 
-one_repeats : (n : Name) (place : Place) → Repeats (n ∷ []) place → ⊥
+pub one_repeats : (n : Name) (place : Place) → Repeats (n ∷ []) place → ⊥
 one_repeats n place r = by r.before r.again r.after r.is (λ e. alone r.before r.again e r.known)
   where
     by : (before : List Name) (again : Name) (after : List Name) → n ∷ [] ≡ before ++ again ∷ after → (before ≡ [] → ⊥) → ⊥

@@ -11,3 +11,5 @@ mod NameExamples
 mod TypeExamples
 mod Corners
 mod Accepts
+pub mod Obeying
+mod Obeys
