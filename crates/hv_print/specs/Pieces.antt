@@ -1,7 +1,9 @@
 -- The printed form of a program as a list of tokens and white space.
-use Rattle.std.specs.Prelude.{ℕ, ℤ, zero, suc, nat_le, Bool, true, false, List, [], ◌∷◌, ◌++◌, Option, Some, None, codes}
+use Rattle.std.specs.Prelude.{ℕ, ◌+◌, length, ℤ, zero, suc, nat_le, Bool, true, false, List, [], ◌∷◌, ◌++◌, Option, Some, None, codes}
 use Rattle.std.specs.Fmt.{signed_decimal}
+use Rattle.hv_tree.specs.declared.place.Place.{Place}
 use Rattle.hv_tree.specs.declared.types.Name.{Name}
+use Rattle.hv_tree.specs.Tokens.{Tokens, mark, keyword, word, number}
 use Rattle.hv_tree.specs.declared.types.Conv.{Conv}
 use Rattle.hv_tree.specs.declared.types.Conv.TheVariants as conv
 use Rattle.hv_tree.specs.declared.ast.Operator.{Operator}
@@ -33,6 +35,28 @@ piece_bytes (MarkOf spelling) = spelling
 abbrev pub bytes_of : List Piece → List ℕ
 bytes_of [] = []
 bytes_of (p ∷ more) = piece_bytes p ++ bytes_of more
+
+-- the place of a byte
+abbrev pub here : ℕ → Place
+here at = record { start = at }
+
+-- the name as it stands there
+abbrev pub placed : ℕ → Name → Name
+placed at name = record { text = name.text; place = here at }
+
+-- the token of a piece, if it is one, by the piece's first byte
+abbrev pub token_at : ℕ → Piece → Tokens
+token_at at Space = []
+token_at at LineFeed = []
+token_at at (WordOf name) = word (placed at name) ∷ []
+token_at at (NumberOf z) = number z (here at) ∷ []
+token_at at (KeywordOf spelling) = keyword spelling (here at) ∷ []
+token_at at (MarkOf spelling) = mark spelling (here at) ∷ []
+
+-- the tokens among the pieces, the first of which begins at this byte
+abbrev pub tokens_of : ℕ → List Piece → Tokens
+tokens_of at [] = []
+tokens_of at (p ∷ more) = token_at at p ++ tokens_of (at + length (piece_bytes p)) more
 
 -- two spaces for each level
 abbrev pub indent_pieces : ℕ → List Piece
