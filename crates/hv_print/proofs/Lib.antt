@@ -1,2 +1,4 @@
 pub mod Parts
+pub mod PieceBytes
 pub mod Placeless
+pub mod SpelledTypes

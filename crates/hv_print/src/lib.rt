@@ -1,11 +1,9 @@
-//! The printed form of a program, which is read back to the same tree.
+//! The printed form of a program.
 #![tactic(auto)]
 
 mod operators;
 mod program;
 mod statements;
-#[cfg(test)]
-mod tests;
 mod types;
 
 pub use program::print;

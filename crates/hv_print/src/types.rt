@@ -119,7 +119,7 @@ fn push_params(out: &mut String, params: &[Param]) -> Result<(), NoMemory>
         out.push_str(": ")?;
         out.push_str(conv_text(param.conv))?;
         push_ty(out, &param.ty)?;
-        before = COMMA;
+        before = ", ";
     }
     Ok(())
 }
@@ -171,7 +171,7 @@ pub(crate) fn push_names(out: &mut String, names: &[Name]) -> Result<(), NoMemor
     for name in names {
         out.push_str(before)?;
         push_name(out, name)?;
-        before = ", ";
+        before = COMMA;
     }
     Ok(())
 }
