@@ -4,6 +4,8 @@
 mod operators;
 mod program;
 mod statements;
+#[cfg(test)]
+mod tests;
 mod types;
 
 pub use program::print;
