@@ -23,7 +23,6 @@ pub data Phase : Type 0 where
 
 -- the phase in which a rule is judged; rules of tokens and of the grammar are judged before there is a tree
 abbrev pub phase_of : Rule → Option Phase
-phase_of rule.N0 = None
 phase_of rule.L0 = None
 phase_of rule.L1 = None
 phase_of rule.L2 = None

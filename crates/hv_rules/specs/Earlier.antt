@@ -6,7 +6,6 @@ use Rattle.hv_tree.specs.declared.refusal.Refusal.{Refusal}
 
 -- the place of a rule in the order of all rules
 abbrev pub number_of : Rule → ℕ
-number_of rule.N0 = 0
 number_of rule.L0 = 1
 number_of rule.L1 = 2
 number_of rule.L2 = 3

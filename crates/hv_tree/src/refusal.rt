@@ -3,8 +3,6 @@ use crate::Place;
 /// What a source may violate, in the order in which rules at one place are named.
 #[derive(Clone, Copy, Debug, PartialEq, Eq, PartialOrd, Ord)]
 pub enum Rule {
-    /// The source isn't of the small grammar of the first stage.
-    N0,
     /// The source has more than 1,048,576 bytes.
     L0,
     /// A byte sequence is not well-formed UTF-8, at its first byte.

@@ -24,9 +24,9 @@ pub fn clone_value(v: &Value, alloc: Global) -> Result<Value, NoMemory>
 fn clone_all(parts: &[Value], alloc: Global) -> Result<Items<Value>, NoMemory>
     ensures { IfOk result (λ copies. copies ≡ parts.now) }
 {
-    let mut copies = Items::new(alloc);
+    let mut copies = Vec::with_capacity(alloc, parts.len())?;
     for part in parts {
         copies.push(clone_value(part, alloc)?)?;
     }
-    Ok(copies)
+    Ok(Items::from_vec(copies))
 }

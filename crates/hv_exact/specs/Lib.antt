@@ -1,0 +1,2 @@
+-- what the parser's outcome on a whole list says
+pub mod Outcomes
