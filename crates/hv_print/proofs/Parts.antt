@@ -20,7 +20,7 @@ use Rattle.hv_tree.specs.declared.ast.Call.{Call, out-Call}
 use Rattle.hv_tree.specs.declared.ast.PlaceExpr.{PlaceExpr, out-PlaceExpr}
 use Rattle.hv_tree.specs.declared.ast.Step.{Step, out-Step}
 use Rattle.hv_tree.specs.declared.ast.Stmt.{Stmt, out-Stmt}
-use Rattle.hv_tree.specs.declared.ast.StmtKind.{StmtKind, out-StmtKind}
+use Rattle.hv_tree.specs.declared.ast.StmtKind.{StmtKind}
 use Rattle.hv_tree.specs.declared.ast.ExprKind.TheVariants as expr
 use Rattle.hv_tree.specs.declared.ast.StmtKind.TheVariants as stmt
 use Rattle.hv_tree.specs.declared.ast.Step.TheVariants as step
@@ -291,7 +291,7 @@ stmt_if d s branches otherwise h = ap (printed.stmt_text d) (lemmas.stmt_if s br
 pub stmt_while : (d : ℕ) (s : Stmt) (test : Expr) (body : Block) → (out-Stmt s).kind ≡ stmt.While test body → texts.stmt_text d s ≡ codes "while " ++ (texts.expr_text d test ++ texts.block_text d body)
 stmt_while d s test body h = ap (printed.stmt_text d) (lemmas.stmt_while s test body h)
 
-pub stmt_return : (d : ℕ) (s : Stmt) (value : Option Expr) → (out-Stmt s).kind ≡ stmt.Return value → texts.stmt_text d s ≡ texts.return_word value ++ texts.returned_text d value
+pub stmt_return : (d : ℕ) (s : Stmt) (value : Option Expr) → (out-Stmt s).kind ≡ stmt.Return value → texts.stmt_text d s ≡ texts.return_text d value
 stmt_return d s None h = ap (printed.stmt_text d) (lemmas.stmt_return s h)
 stmt_return d s (Some x) h = ap (printed.stmt_text d) (lemmas.stmt_return_with s x h)
 

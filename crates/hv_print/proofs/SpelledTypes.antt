@@ -1,6 +1,5 @@
 -- The tokens of a printed type spell the type, places aside.
-use Rattle.std.proofs.Common.{◌≡◌, ℕ, ◌+◌, length, Bool, true, false, List, [], ◌∷◌, ◌++◌, map, Option, Some, None, codes, refl, sym, ap, ◌∙◌, append_assoc, append-nil}
-use Rattle.hv_tree.specs.declared.types.Name.{Name}
+use Rattle.std.proofs.Common.{◌≡◌, ℕ, ◌+◌, length, Bool, true, false, List, [], ◌∷◌, ◌++◌, map, Some, None, codes, refl, sym, ap, ◌∙◌, append_assoc, append-nil}
 use Rattle.hv_tree.specs.declared.types.Conv.{Conv}
 use Rattle.hv_tree.specs.declared.types.Conv.TheVariants as conv
 use Rattle.hv_tree.specs.declared.types.Ty.{Ty}
@@ -13,7 +12,7 @@ use Rattle.hv_tree.specs.Core.{CoreTy, IntTy, BoolTy, NamedTy, ArrayTy, FunTy, F
 use Rattle.hv_tree.specs.Printed.{is_fun_ty}
 use Rattle.hv_tree.proofs.CoreLemmas as lemmas
 use Rattle.hv_print.specs.Aside.{nowhere, ty_aside, tys_aside}
-use Rattle.hv_print.specs.Pieces.{Piece, KeywordOf, MarkOf, piece_bytes, here, placed, token_at, tokens_of, comma, grouped_pieces, conv_pieces, ty_pieces, tys_pieces}
+use Rattle.hv_print.specs.Pieces.{Piece, MarkOf, piece_bytes, here, placed, token_at, tokens_of, comma, grouped_pieces, conv_pieces, ty_pieces, tys_pieces}
 
 -- the tokens spell something that is the same, places aside
 pub record Reads {T C : Type 0} (Is : T → Tokens → Type 0) (seen : T → C) (read : Tokens) (want : C) : Type 0 where

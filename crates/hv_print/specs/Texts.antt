@@ -1,5 +1,5 @@
 -- The printed texts of parts of the tree, as the code writes them.
-use Rattle.std.specs.Prelude.{ℕ, Bool, List, [], ◌∷◌, ◌++◌, map, Option, Some, None, codes}
+use Rattle.std.specs.Prelude.{ℕ, List, [], ◌++◌, map, Option, Some, None, codes}
 use Rattle.hv_tree.specs.declared.types.Name.{Name}
 use Rattle.hv_tree.specs.declared.types.Conv.{Conv}
 use Rattle.hv_tree.specs.declared.types.Ty.{Ty}
@@ -99,12 +99,25 @@ abbrev pub value_text : ℕ → Option Expr → List ℕ
 value_text d None = []
 value_text d (Some x) = codes " = " ++ expr_text d x
 
--- the word `return`, and what sets it off from its value or from what follows it
-abbrev pub return_word : Option Expr → List ℕ
-return_word None = codes "return;"
-return_word (Some x) = codes "return "
+abbrev pub array_text : ℕ → List Expr → List ℕ
+array_text d xs = codes "[" ++ (exprs_text d [] xs ++ codes "]")
 
--- the value of a `return`, if it has one
-abbrev pub returned_text : ℕ → Option Expr → List ℕ
-returned_text d None = []
-returned_text d (Some x) = expr_text d x
+abbrev pub lambda_text : ℕ → List Name → List Param → Option Ty → Block → List ℕ
+lambda_text d captures params result body = codes "fun [" ++ (printed.names_text [] captures ++ (codes "] " ++ (signature_text params result ++ block_text d body)))
+
+abbrev pub var_text : ℕ → Name → Ty → Option Expr → List ℕ
+var_text d name t value = codes "var " ++ (printed.typed_text name (core.core_ty t) ++ value_text d value)
+
+abbrev pub let_text : ℕ → Name → Ty → Expr → List ℕ
+let_text d name t x = codes "let " ++ (printed.typed_text name (core.core_ty t) ++ (codes " = " ++ expr_text d x))
+
+abbrev pub inout_text : ℕ → Name → Ty → PlaceExpr → List ℕ
+inout_text d name t p = codes "inout " ++ (printed.typed_text name (core.core_ty t) ++ (codes " = &" ++ place_text d p))
+
+abbrev pub print_text : ℕ → Expr → List ℕ
+print_text d x = codes "print(" ++ (expr_text d x ++ codes ")")
+
+-- a `return` without value is set off from what follows it
+abbrev pub return_text : ℕ → Option Expr → List ℕ
+return_text d None = codes "return;"
+return_text d (Some x) = codes "return " ++ expr_text d x

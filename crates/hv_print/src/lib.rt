@@ -1,6 +1,7 @@
 //! The printed form of a program.
 #![tactic(auto)]
 
+mod law;
 mod operators;
 mod program;
 mod statements;
@@ -8,4 +9,7 @@ mod statements;
 mod tests;
 mod types;
 
+pub use law::{
+    printed_forms_tell_programs_apart, printed_programs_are_read_back, read_programs_are_written,
+};
 pub use program::print;

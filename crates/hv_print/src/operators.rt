@@ -1,5 +1,5 @@
 // Operators, and how tightly they and expressions bind.
-ghost use Rattle.std.specs.Prelude.{◌≡◌, map};
+ghost use Rattle.std.specs.Prelude.{◌≡◌, map, nat_le};
 ghost use Rattle.hv_tree.specs.Core.{core_of, core_links};
 ghost use Rattle.hv_tree.specs.Printed as printed;
 
@@ -65,4 +65,11 @@ pub(crate) fn expr_tightness(x: &Expr) -> u32
         ExprKind::Chain(_, links) => links_tightness(links.as_slice()),
         _ => TIGHTEST,
     }
+}
+
+// Whether an operand of an operator that binds as tightly as `outer` says is in brackets.
+pub(crate) fn is_grouped(outer: u32, x: &Expr) -> bool
+    ensures { result ≡ nat_le (printed.expr_tightness (core_of x.now)) outer }
+{
+    expr_tightness(x) <= outer
 }

@@ -1,14 +1,15 @@
 // Expressions and statements. `depth` is that of the line on which the part begins.
-ghost use Rattle.std.specs.Prelude.{◌≡◌, ◌++◌, [], codes, nat_le, OnOk, string_bytes};
-ghost use Rattle.hv_tree.specs.Core.{core_of};
+ghost use Rattle.std.specs.Prelude.{◌≡◌, ◌++◌, [], codes, OnOk, string_bytes};
 ghost use Rattle.hv_tree.specs.Printed.{indent, truth_text};
 ghost use Rattle.hv_tree.specs.Printed as printed;
 ghost use Rattle.hv_print.specs.Texts as texts;
 
-use crate::operators::{PREFIXED, expr_tightness, links_tightness, operator_text};
+use crate::operators::{PREFIXED, is_grouped, links_tightness, operator_text};
 use crate::types::{COMMA, push_handle_ty, push_name, push_names, push_signature, push_typed};
+use hv_items::Items;
 use hv_tree::{
-    Arg, Block, Branch, Call, Expr, ExprKind, Operator, Place, PlaceExpr, Step, Stmt, StmtKind,
+    Arg, Block, Branch, Call, Expr, ExprKind, Name, Operator, Param, Place, PlaceExpr, Step, Stmt,
+    StmtKind, Ty,
 };
 use std::alloc::AllocError as NoMemory;
 
@@ -16,23 +17,6 @@ fn truth_text(value: bool) -> &'static str
     ensures { result.now ≡ truth_text value }
 {
     if value { "true" } else { "false" }
-}
-
-// A `return` without value is set off from what follows it.
-fn return_word(value: &Option<Expr>) -> &'static str
-    ensures { result.now ≡ texts.return_word value.now }
-{
-    match value {
-        None => "return;",
-        Some(_) => "return ",
-    }
-}
-
-// Whether an operand of an operator that binds as tightly as `outer` says is in brackets.
-fn is_grouped(outer: u32, x: &Expr) -> bool
-    ensures { result ≡ nat_le (printed.expr_tightness (core_of x.now)) outer }
-{
-    expr_tightness(x) <= outer
 }
 
 #[tactic(auto, using(crate::proofs::Parts::indent_more))]
@@ -47,8 +31,15 @@ fn push_indent(out: &mut String, depth: usize) -> Result<(), NoMemory>
     Ok(())
 }
 
+fn push_await(out: &mut String, handle: &Name) -> Result<(), NoMemory>
+    ensures { OnOk result (string_bytes out.new ≡ string_bytes out.old ++ (codes "await " ++ handle.now.text)) }
+{
+    out.push_str("await ")?;
+    push_name(out, handle)
+}
+
 #[cycle(parts)]
-#[tactic(auto, using(crate::proofs::Parts::expr_int, crate::proofs::Parts::expr_bool, crate::proofs::Parts::expr_path, crate::proofs::Parts::expr_call))]
+#[tactic(auto, using(crate::proofs::Parts::expr_int, crate::proofs::Parts::expr_bool, crate::proofs::Parts::expr_path, crate::proofs::Parts::expr_call, crate::proofs::Parts::expr_await, crate::proofs::Parts::expr_array_lit, crate::proofs::Parts::expr_lambda))]
 fn push_expr(out: &mut String, depth: usize, x: &Expr) -> Result<(), NoMemory>
     ensures { OnOk result (string_bytes out.new ≡ string_bytes out.old ++ texts.expr_text depth x.now) }
 {
@@ -57,15 +48,8 @@ fn push_expr(out: &mut String, depth: usize, x: &Expr) -> Result<(), NoMemory>
         ExprKind::Bool(value) => out.push_str(truth_text(*value)),
         ExprKind::Path(path) => push_place(out, depth, path),
         ExprKind::Call(call) => push_call(out, depth, call),
-        ExprKind::Await(handle) => {
-            out.push_str("await ")?;
-            push_name(out, handle)
-        }
-        ExprKind::ArrayLit(elements) => {
-            out.push_str("[")?;
-            push_exprs(out, depth, elements.as_slice())?;
-            out.push_str("]")
-        }
+        ExprKind::Await(handle) => push_await(out, handle),
+        ExprKind::ArrayLit(elements) => push_array(out, depth, elements.as_slice()),
         ExprKind::Filled(len, value) => {
             out.push_str("filled(")?;
             push_expr(out, depth, len.get())?;
@@ -79,11 +63,7 @@ fn push_expr(out: &mut String, depth: usize, x: &Expr) -> Result<(), NoMemory>
             out.push_str(")")
         }
         ExprKind::Lambda(captures, params, returned, body) => {
-            out.push_str("fun [")?;
-            push_names(out, captures.as_slice())?;
-            out.push_str("] ")?;
-            push_signature(out, params.as_slice(), returned)?;
-            push_block(out, depth, body)
+            push_lambda(out, depth, body, captures, params, returned)
         }
         ExprKind::Prefix(operator, operand) => {
             out.push_str(operator_text(*operator))?;
@@ -95,6 +75,24 @@ fn push_expr(out: &mut String, depth: usize, x: &Expr) -> Result<(), NoMemory>
             push_links(out, depth, outer, links.as_slice())
         }
     }
+}
+
+#[cycle(parts)]
+fn push_lambda(
+    out: &mut String,
+    depth: usize,
+    body: &Block,
+    captures: &Items<Name>,
+    params: &Items<Param>,
+    returned: &Option<Ty>,
+) -> Result<(), NoMemory>
+    ensures { OnOk result (string_bytes out.new ≡ string_bytes out.old ++ texts.lambda_text depth captures.now params.now returned.now body.now) }
+{
+    out.push_str("fun [")?;
+    push_names(out, captures.as_slice())?;
+    out.push_str("] ")?;
+    push_signature(out, params.as_slice(), returned)?;
+    push_block(out, depth, body)
 }
 
 // An operand of an operator that binds as tightly as `outer` says.
@@ -127,6 +125,15 @@ fn push_links(
         push_operand(out, depth, outer, operand)?;
     }
     Ok(())
+}
+
+#[cycle(parts)]
+fn push_array(out: &mut String, depth: usize, elements: &[Expr]) -> Result<(), NoMemory>
+    ensures { OnOk result (string_bytes out.new ≡ string_bytes out.old ++ texts.array_text depth elements.now) }
+{
+    out.push_str("[")?;
+    push_exprs(out, depth, elements)?;
+    out.push_str("]")
 }
 
 #[cycle(parts)]
@@ -247,28 +254,14 @@ fn push_stmts(out: &mut String, depth: usize, stmts: &[Stmt]) -> Result<(), NoMe
 }
 
 #[cycle(parts)]
-#[tactic(auto, using(crate::proofs::Parts::stmt_call, crate::proofs::Parts::stmt_block))]
+#[tactic(auto, using(crate::proofs::Parts::stmt_var, crate::proofs::Parts::stmt_let, crate::proofs::Parts::stmt_inout, crate::proofs::Parts::stmt_return, crate::proofs::Parts::stmt_print, crate::proofs::Parts::stmt_await, crate::proofs::Parts::stmt_call, crate::proofs::Parts::stmt_block))]
 fn push_stmt(out: &mut String, depth: usize, stmt: &Stmt) -> Result<(), NoMemory>
     ensures { OnOk result (string_bytes out.new ≡ string_bytes out.old ++ texts.stmt_text depth stmt.now) }
 {
     match &stmt.kind {
-        StmtKind::Var(name, ty, value) => {
-            out.push_str("var ")?;
-            push_typed(out, name, ty)?;
-            push_value(out, depth, value)
-        }
-        StmtKind::Let(name, ty, value) => {
-            out.push_str("let ")?;
-            push_typed(out, name, ty)?;
-            out.push_str(" = ")?;
-            push_expr(out, depth, value)
-        }
-        StmtKind::Inout(name, ty, place) => {
-            out.push_str("inout ")?;
-            push_typed(out, name, ty)?;
-            out.push_str(" = &")?;
-            push_place(out, depth, place)
-        }
+        StmtKind::Var(name, ty, value) => push_var(out, depth, value, name, ty),
+        StmtKind::Let(name, ty, value) => push_let(out, depth, value, name, ty),
+        StmtKind::Inout(name, ty, place) => push_inout(out, depth, place, name, ty),
         StmtKind::Assign(place, value) => {
             out.push_str("&")?;
             push_place(out, depth, place)?;
@@ -284,15 +277,8 @@ fn push_stmt(out: &mut String, depth: usize, stmt: &Stmt) -> Result<(), NoMemory
             push_expr(out, depth, test)?;
             push_block(out, depth, body)
         }
-        StmtKind::Return(value) => {
-            out.push_str(return_word(value))?;
-            push_returned(out, depth, value)
-        }
-        StmtKind::Print(value) => {
-            out.push_str("print(")?;
-            push_expr(out, depth, value)?;
-            out.push_str(")")
-        }
+        StmtKind::Return(value) => push_return_stmt(out, depth, value),
+        StmtKind::Print(value) => push_print(out, depth, value),
         StmtKind::Task(handle, ty, _, budget, call) => {
             out.push_str("task ")?;
             push_name(out, handle)?;
@@ -302,20 +288,24 @@ fn push_stmt(out: &mut String, depth: usize, stmt: &Stmt) -> Result<(), NoMemory
             out.push_str(") ")?;
             push_call(out, depth, call)
         }
-        StmtKind::Await(handle) => {
-            out.push_str("await ")?;
-            push_name(out, handle)
-        }
+        StmtKind::Await(handle) => push_await(out, handle),
         StmtKind::Call(call) => push_call(out, depth, call),
         StmtKind::Block(block) => push_bare(out, depth, block),
     }
 }
 
-// The value of a `var`, if it has one.
 #[cycle(parts)]
-fn push_value(out: &mut String, depth: usize, value: &Option<Expr>) -> Result<(), NoMemory>
-    ensures { OnOk result (string_bytes out.new ≡ string_bytes out.old ++ texts.value_text depth value.now) }
+fn push_var(
+    out: &mut String,
+    depth: usize,
+    value: &Option<Expr>,
+    name: &Name,
+    ty: &Ty,
+) -> Result<(), NoMemory>
+    ensures { OnOk result (string_bytes out.new ≡ string_bytes out.old ++ texts.var_text depth name.now ty.now value.now) }
 {
+    out.push_str("var ")?;
+    push_typed(out, name, ty)?;
     match value {
         None => Ok(()),
         Some(value) => {
@@ -325,14 +315,58 @@ fn push_value(out: &mut String, depth: usize, value: &Option<Expr>) -> Result<()
     }
 }
 
-// The value of a `return`, if it has one.
 #[cycle(parts)]
-fn push_returned(out: &mut String, depth: usize, value: &Option<Expr>) -> Result<(), NoMemory>
-    ensures { OnOk result (string_bytes out.new ≡ string_bytes out.old ++ texts.returned_text depth value.now) }
+fn push_let(
+    out: &mut String,
+    depth: usize,
+    value: &Expr,
+    name: &Name,
+    ty: &Ty,
+) -> Result<(), NoMemory>
+    ensures { OnOk result (string_bytes out.new ≡ string_bytes out.old ++ texts.let_text depth name.now ty.now value.now) }
+{
+    out.push_str("let ")?;
+    push_typed(out, name, ty)?;
+    out.push_str(" = ")?;
+    push_expr(out, depth, value)
+}
+
+#[cycle(parts)]
+fn push_inout(
+    out: &mut String,
+    depth: usize,
+    place: &PlaceExpr,
+    name: &Name,
+    ty: &Ty,
+) -> Result<(), NoMemory>
+    ensures { OnOk result (string_bytes out.new ≡ string_bytes out.old ++ texts.inout_text depth name.now ty.now place.now) }
+{
+    out.push_str("inout ")?;
+    push_typed(out, name, ty)?;
+    out.push_str(" = &")?;
+    push_place(out, depth, place)
+}
+
+#[cycle(parts)]
+fn push_print(out: &mut String, depth: usize, value: &Expr) -> Result<(), NoMemory>
+    ensures { OnOk result (string_bytes out.new ≡ string_bytes out.old ++ texts.print_text depth value.now) }
+{
+    out.push_str("print(")?;
+    push_expr(out, depth, value)?;
+    out.push_str(")")
+}
+
+// A `return` without value is set off from what follows it.
+#[cycle(parts)]
+fn push_return_stmt(out: &mut String, depth: usize, value: &Option<Expr>) -> Result<(), NoMemory>
+    ensures { OnOk result (string_bytes out.new ≡ string_bytes out.old ++ texts.return_text depth value.now) }
 {
     match value {
-        None => Ok(()),
-        Some(value) => push_expr(out, depth, value),
+        None => out.push_str("return;"),
+        Some(value) => {
+            out.push_str("return ")?;
+            push_expr(out, depth, value)
+        }
     }
 }
 

@@ -5,20 +5,11 @@ use Rattle.hv_print.specs.Texts as texts
 use Rattle.hv_print.proofs.Parts as parts
 use Rattle.hv_print.proofs.statements.+parts.Goals as goal
 
-pub push_expr-returns-in_ok-push_str-in-Await : goal.push_expr-returns-in_ok-push_str-in-Await
-push_expr-returns-in_ok-push_str-in-Await t c = rw (parts.expr_await c.args.depth c.args.x.now c.in-Await.handle c.in-Await.is) (grind (arith, common_steps))
-
-pub push_expr-returns-in_ok-push_exprs-in-ArrayLit : goal.push_expr-returns-in_ok-push_exprs-in-ArrayLit
-push_expr-returns-in_ok-push_exprs-in-ArrayLit t c = rw (parts.expr_array_lit c.args.depth c.args.x.now c.in-ArrayLit.elements c.in-ArrayLit.is) (grind (arith, common_steps))
-
 pub push_expr-returns-in_ok-push_expr-in-Filled-2 : goal.push_expr-returns-in_ok-push_expr-in-Filled-2
 push_expr-returns-in_ok-push_expr-in-Filled-2 t c = rw (parts.expr_filled c.args.depth c.args.x.now c.in-Filled.len c.in-Filled.value c.in-Filled.is) (grind (arith, common_steps))
 
 pub push_expr-returns-in_ok-push_place-in-Count : goal.push_expr-returns-in_ok-push_place-in-Count
 push_expr-returns-in_ok-push_place-in-Count t c = rw (parts.expr_count c.args.depth c.args.x.now c.in-Count.path c.in-Count.is) (grind (arith, common_steps))
-
-pub push_expr-returns-in_ok-push_signature-in-Lambda : goal.push_expr-returns-in_ok-push_signature-in-Lambda
-push_expr-returns-in_ok-push_signature-in-Lambda t c = rw (parts.expr_lambda c.args.depth c.args.x.now c.in-Lambda.captures c.in-Lambda.params c.in-Lambda.returned c.in-Lambda.body c.in-Lambda.is) (grind (arith, common_steps))
 
 pub push_expr-returns-in_ok-push_str-in-Prefix : goal.push_expr-returns-in_ok-push_str-in-Prefix
 push_expr-returns-in_ok-push_str-in-Prefix t c = rw (parts.expr_prefix c.args.depth c.args.x.now c.in-Prefix.operator c.in-Prefix.operand c.in-Prefix.is) (grind (arith, common_steps))
@@ -50,15 +41,6 @@ push_bare-returns t c = rw (parts.bare_opened c.args.depth c.args.block.now) (gr
 pub push_branch-returns : goal.push_branch-returns
 push_branch-returns t c = rw (parts.branch_opened c.args.depth c.args.branch.now) (grind (arith, common_steps))
 
-pub push_stmt-returns-in_ok-push_typed-in-Var : goal.push_stmt-returns-in_ok-push_typed-in-Var
-push_stmt-returns-in_ok-push_typed-in-Var t c = rw (parts.stmt_var c.args.depth c.args.stmt.now c.in-Var.name c.in-Var.ty c.in-Var.value c.in-Var.is) (grind (arith, common_steps))
-
-pub push_stmt-returns-in_ok-push_str-in-Let-2 : goal.push_stmt-returns-in_ok-push_str-in-Let-2
-push_stmt-returns-in_ok-push_str-in-Let-2 t c = rw (parts.stmt_let c.args.depth c.args.stmt.now c.in-Let.name c.in-Let.ty c.in-Let.value c.in-Let.is) (grind (arith, common_steps))
-
-pub push_stmt-returns-in_ok-push_str-in-Inout-2 : goal.push_stmt-returns-in_ok-push_str-in-Inout-2
-push_stmt-returns-in_ok-push_str-in-Inout-2 t c = rw (parts.stmt_inout c.args.depth c.args.stmt.now c.in-Inout.name c.in-Inout.ty c.in-Inout.place c.in-Inout.is) (grind (arith, common_steps))
-
 pub push_stmt-returns-in_ok-push_str-in-Assign-2 : goal.push_stmt-returns-in_ok-push_str-in-Assign-2
 push_stmt-returns-in_ok-push_str-in-Assign-2 t c = rw (parts.stmt_assign c.args.depth c.args.stmt.now c.in-Assign.place c.in-Assign.value c.in-Assign.is) (grind (arith, common_steps))
 
@@ -68,17 +50,8 @@ push_stmt-returns-in_ok-push_branches-in-If t c = rw (parts.stmt_if c.args.depth
 pub push_stmt-returns-in_ok-push_expr-in-While : goal.push_stmt-returns-in_ok-push_expr-in-While
 push_stmt-returns-in_ok-push_expr-in-While t c = rw (parts.stmt_while c.args.depth c.args.stmt.now c.in-While.test c.in-While.body c.in-While.is) (grind (arith, common_steps))
 
-pub push_stmt-returns-in_ok-push_str-in-Return : goal.push_stmt-returns-in_ok-push_str-in-Return
-push_stmt-returns-in_ok-push_str-in-Return t c = rw (parts.stmt_return c.args.depth c.args.stmt.now c.in-Return.value c.in-Return.is) (grind (arith, common_steps))
-
-pub push_stmt-returns-in_ok-push_expr-in-Print : goal.push_stmt-returns-in_ok-push_expr-in-Print
-push_stmt-returns-in_ok-push_expr-in-Print t c = rw (parts.stmt_print c.args.depth c.args.stmt.now c.in-Print.value c.in-Print.is) (grind (arith, common_steps))
-
 pub push_stmt-returns-in_ok-push_str-in-Task-3 : goal.push_stmt-returns-in_ok-push_str-in-Task-3
 push_stmt-returns-in_ok-push_str-in-Task-3 t c = rw (parts.stmt_task c.args.depth c.args.stmt.now c.in-Task.handle c.in-Task.ty _ c.in-Task.budget c.in-Task.call c.in-Task.is) (grind (arith, common_steps))
-
-pub push_stmt-returns-in_ok-push_str-in-Await : goal.push_stmt-returns-in_ok-push_str-in-Await
-push_stmt-returns-in_ok-push_str-in-Await t c = rw (parts.stmt_await c.args.depth c.args.stmt.now c.in-Await.handle c.in-Await.is) (grind (arith, common_steps))
 
 pub push_steps-loop-step-preserved : goal.push_steps-loop-step-preserved
 push_steps-loop-step-preserved t c =

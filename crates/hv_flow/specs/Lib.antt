@@ -1,0 +1,10 @@
+pub mod Acts
+pub mod Positions
+pub mod Graphs
+pub mod Reading
+pub mod Walks
+pub mod Scopes
+pub mod Plans
+pub mod StmtPlans
+pub mod BodyPlans
+pub mod Bodies

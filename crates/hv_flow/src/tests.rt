@@ -1,0 +1,152 @@
+use crate::{FlowGraph, graph};
+use hv_rules::FlowEvent;
+use hv_tree::{
+    Block, Conv, Expr, FunDecl, Name, Operator, Param, Place, Stmt, Tree, builders as build,
+};
+use std::alloc::{AllocError as NoMemory, Global};
+use std::test::Fail;
+
+const AT: Place = Place { start: 0 };
+
+fn name(alloc: Global, text: &str) -> Result<Name, NoMemory> {
+    build::name(alloc, String::from_str(alloc, text)?, AT)
+}
+
+fn param(alloc: Global, text: &str) -> Result<Param, NoMemory> {
+    build::param(
+        alloc,
+        name(alloc, text)?,
+        Conv::Let,
+        build::ty_bool(alloc, AT)?,
+    )
+}
+
+fn read(alloc: Global, text: &str) -> Result<Expr, NoMemory> {
+    let place = build::place_expr(alloc, name(alloc, text)?, Vec::new(alloc))?;
+    build::expr(alloc, AT, build::expr_kind_path(alloc, place)?)
+}
+
+fn print(alloc: Global, value: Expr) -> Result<Stmt, NoMemory> {
+    build::stmt(alloc, AT, build::stmt_kind_print(alloc, value)?)
+}
+
+fn leave(alloc: Global) -> Result<Stmt, NoMemory> {
+    build::stmt(alloc, AT, build::stmt_kind_return(alloc, None)?)
+}
+
+fn block_of(alloc: Global, stmt: Stmt) -> Result<Block, NoMemory> {
+    let mut stmts = Vec::new(alloc);
+    stmts.push(stmt)?;
+    build::block(alloc, stmts, AT)
+}
+
+fn function(alloc: Global, params: Vec<Param>, body: Block) -> Result<FunDecl, NoMemory> {
+    build::fun_decl(alloc, name(alloc, "f")?, params, None, body)
+}
+
+// Each node's event, and the numbers of those that may come next.
+fn shown(alloc: Global, graph: &FlowGraph) -> Result<String, NoMemory> {
+    let mut text = String::new(alloc);
+    for node in graph.nodes.as_slice() {
+        match &node.event {
+            FlowEvent::Entry => text.push_str("entry")?,
+            FlowEvent::Declare(n) => write!(text, "declare {n}")?,
+            FlowEvent::Init(path) => write!(text, "init {}", path.root)?,
+            FlowEvent::Use(path) => write!(text, "use {}", path.root)?,
+            FlowEvent::OpenRead(path) => write!(text, "read {}", path.root)?,
+            FlowEvent::Close => text.push_str("close")?,
+            FlowEvent::Return => text.push_str("return")?,
+            FlowEvent::ScopeEnd(n) => write!(text, "end {n}")?,
+            _ => text.push_str("other")?,
+        }
+        for next in node.next.as_slice() {
+            write!(text, ">{next}")?;
+        }
+        text.push_str("; ")?;
+    }
+    Ok(text)
+}
+
+fn graph_text(alloc: Global, params: Vec<Param>, body: Block) -> Result<String, NoMemory> {
+    let mut decls = Vec::new(alloc);
+    decls.push(build::decl_fun(alloc, function(alloc, params, body)?)?)?;
+    let tree = build::tree(alloc, decls)?;
+    let made = graph(alloc, &tree, 0)?;
+    shown(alloc, &made)
+}
+
+fn params(alloc: Global, names: &[&str]) -> Result<Vec<Param>, NoMemory> {
+    let mut params = Vec::new(alloc);
+    for text in names {
+        params.push(param(alloc, text)?)?;
+    }
+    Ok(params)
+}
+
+// `if a { print(a) }`
+#[test]
+fn a_test_leads_into_its_block_and_past_it(rt: HostRuntime) -> Result<(), Fail> {
+    let alloc = rt.alloc();
+    let branch = build::branch(
+        alloc,
+        read(alloc, "a")?,
+        block_of(alloc, print(alloc, read(alloc, "a")?)?)?,
+    )?;
+    let mut branches = Vec::new(alloc);
+    branches.push(branch)?;
+    let kind = build::stmt_kind_if(alloc, branches, None)?;
+    let body = block_of(alloc, build::stmt(alloc, AT, kind)?)?;
+    assert_eq!(rt;
+        graph_text(alloc, params(alloc, &["a"])?, body)?.as_str(),
+        "entry>1; declare 0>2; init 0>3; use 0>4>6; use 0>5; end 1>6; end 1; "
+    );
+    Ok(())
+}
+
+// `while a { return; }`
+#[test]
+fn a_loop_that_returns_has_no_second_turn(rt: HostRuntime) -> Result<(), Fail> {
+    let alloc = rt.alloc();
+    let kind = build::stmt_kind_while(alloc, read(alloc, "a")?, block_of(alloc, leave(alloc)?)?)?;
+    let body = block_of(alloc, build::stmt(alloc, AT, kind)?)?;
+    assert_eq!(rt;
+        graph_text(alloc, params(alloc, &["a"])?, body)?.as_str(),
+        "entry>1; declare 0>2; init 0>3>6; use 0>4; return; end 1>3>6; use 0>7; end 1; "
+    );
+    Ok(())
+}
+
+// `print(a && b || c)`
+#[test]
+fn each_operand_may_be_the_last_one(rt: HostRuntime) -> Result<(), Fail> {
+    let alloc = rt.alloc();
+    let mut second = Vec::new(alloc);
+    second.push((Operator::And, AT, read(alloc, "b")?))?;
+    let both = build::expr_kind_chain(alloc, read(alloc, "a")?, second)?;
+    let both = build::expr(alloc, AT, both)?;
+    let mut third = Vec::new(alloc);
+    third.push((Operator::Or, AT, read(alloc, "c")?))?;
+    let any = build::expr(alloc, AT, build::expr_kind_chain(alloc, both, third)?)?;
+    let body = block_of(alloc, print(alloc, any)?)?;
+    assert_eq!(rt;
+        graph_text(alloc, params(alloc, &["a", "b", "c"])?, body)?.as_str(),
+        "entry>1; declare 0>2; init 0>3; declare 1>4; init 1>5; declare 2>6; init 2>7; use 0>8>9>10; use 1>9>10; use 2>10; end 3; "
+    );
+    Ok(())
+}
+
+// `{ return; } print(a)`
+#[test]
+fn nothing_comes_behind_a_return(rt: HostRuntime) -> Result<(), Fail> {
+    let alloc = rt.alloc();
+    let inner = build::stmt_kind_block(alloc, block_of(alloc, leave(alloc)?)?)?;
+    let mut stmts = Vec::new(alloc);
+    stmts.push(build::stmt(alloc, AT, inner)?)?;
+    stmts.push(print(alloc, read(alloc, "a")?)?)?;
+    let body = build::block(alloc, stmts, AT)?;
+    assert_eq!(rt;
+        graph_text(alloc, params(alloc, &["a"])?, body)?.as_str(),
+        "entry>1; declare 0>2; init 0>3; return; end 1>5; use 0>6; end 1; "
+    );
+    Ok(())
+}
