@@ -1,13 +1,14 @@
 -- The answer and its causes.
-use Rattle.std.proofs.Common.{◌≡◌, ℕ, List, Option, Some, sym, ◌∙◌, inl, inr, subst}
-use Rattle.std.specs.Prelude.{IfSome}
+use Rattle.std.proofs.Common.{◌≡◌, ℕ, List, Option, Some, refl, sym, ◌∙◌, inl, inr, subst}
+use Rattle.std.specs.Prelude.{Bool, true, false, IsTrue, ◌↔◌}
+use Rattle.hv_words.specs.Taken.{Asked, Taken, Word}
 use Rattle.hv_ports.specs.Causes.{Rose}
 use Rattle.hv_meaning.specs.declared.node.End.{End}
 use Rattle.hv_meaning.specs.declared.node.End.TheVariants as end
 use Rattle.hv_driver.specs.declared.status.Status.{Status}
 use Rattle.hv_driver.specs.declared.status.Status.TheVariants.{Usage, SourceFault, SinkFault, NoMemory}
 use Rattle.hv_driver.specs.Delivers.{Delivers}
-use Rattle.hv_driver.specs.Answer.{Answers, AnswersFile, IfAnswered, status_of}
+use Rattle.hv_driver.specs.Answer.{Answers, refused, checked, shown, unready, ran, AnswersFile, IfAnswered, UnlessNoMemory, status_of, file_of}
 use Rattle.hv_driver.specs.Took.{ReadsFile}
 
 -- a status that the answer for some bytes has
@@ -23,9 +24,12 @@ end_ordinary end.Done = tt
 end_ordinary (end.Trap k p) = tt
 end_ordinary (end.Spent p) = tt
 
-pub answer_ordinary : (bytes : List ℕ) (status : Status) (text : List ℕ) → Answers bytes status text → IsOrdinary status
-answer_ordinary bytes status text (inl h) = subst IsOrdinary (sym h.ends) tt
-answer_ordinary bytes status text (inr h) = subst IsOrdinary (sym h.ends) (end_ordinary _)
+pub answer_ordinary : (asked : Asked) (bytes : List ℕ) (status : Status) (text : List ℕ) → Answers asked bytes status text → IsOrdinary status
+answer_ordinary asked bytes status text (refused r f e t) = subst IsOrdinary (sym e) tt
+answer_ordinary asked bytes status text (checked tree a q e t) = subst IsOrdinary (sym e) tt
+answer_ordinary asked bytes status text (shown tree a q e t) = subst IsOrdinary (sym e) tt
+answer_ordinary asked bytes status text (unready tree steps trace a q n e t) = subst IsOrdinary (sym e) tt
+answer_ordinary asked bytes status text (ran tree steps trace node a q r n e t) = subst IsOrdinary (sym e) (end_ordinary node.end)
 
 pub no_source_fault : (status result : Status) (text : List ℕ) (a b : Option (List ℕ)) (f g : ℕ) → IsOrdinary status → Delivers status result text a b f g → result ≡ SourceFault → ⊥
 no_source_fault status result text a b f g o (inl h) e = subst IsOrdinary (sym h.0 ∙ e) o
@@ -48,7 +52,22 @@ if_answered SourceFault P h = tt
 if_answered NoMemory P h = tt
 if_answered _ P h = h
 
-pub answered : (words : Option (List ℕ)) (file : List ℕ) (files : List ℕ → Option (List ℕ)) (left : Option (List ℕ)) (bytes : List ℕ) (status result : Status) (text : List ℕ) (a b : Option (List ℕ)) (f g : ℕ) → words ≡ Some file → ReadsFile (files file) left bytes → Answers bytes status text → Delivers status result text a b f g → IfSome words (λ name. IfAnswered result (AnswersFile (files name) left result a b f g))
-answered words file files left bytes status result text a b f g e read answers delivered =
-    subst (λ w. IfSome w (λ name. IfAnswered result (AnswersFile (files name) left result a b f g))) (sym e)
-    (if_answered result (AnswersFile (files file) left result a b f g) (record { bytes = bytes; read = read; status = status; text = text; answers = answers; delivered = delivered }))
+pub unless : (result : Status) (P : Type 0) → P → UnlessNoMemory result P
+unless NoMemory P h = tt
+unless _ P h = h
+
+-- the words are taken in one way, so that this order is any that they ask for
+pub answered : (words : List Word) (one : Asked) (files : List ℕ → Option (List ℕ)) (left : Option (List ℕ)) (bytes : List ℕ) (status result : Status) (text : List ℕ) (a b : Option (List ℕ)) (f g : ℕ) →
+    ((other : Asked) → Taken words other → other ≡ one) → ReadsFile (files (file_of one)) left bytes → Answers one bytes status text → Delivers status result text a b f g →
+    (asked : Asked) → Taken words asked → IfAnswered result (AnswersFile asked (files (file_of asked)) left result a b f g)
+answered words one files left bytes status result text a b f g only read answers delivered asked taken =
+    subst (λ asked. IfAnswered result (AnswersFile asked (files (file_of asked)) left result a b f g)) (sym (only asked taken))
+    (if_answered result (AnswersFile one (files (file_of one)) left result a b f g) (record { bytes = bytes; read = read; status = status; text = text; answers = answers; delivered = delivered }))
+
+pub not_runs : (b : Bool) (P : Type 0) → (IsTrue b ↔ P) → b ≡ false → P → ⊥
+not_runs true P h e p = absurd (cc)
+not_runs false P h e p = let q : false ≡ true = h.1 p in cc
+
+pub does_run : (b : Bool) (P : Type 0) → (IsTrue b ↔ P) → b ≡ true → P
+does_run true P h e = h.0 refl
+does_run false P h e = absurd (cc)

@@ -1,14 +1,18 @@
--- What the tool answers for the bytes of a source.
-use Rattle.std.specs.Prelude.{◌≡◌, ◌⊎◌, ℕ, List, [], ◌∷◌, ◌++◌, Option, Some, codes, ⊤}
+-- What the tool answers for an order and the bytes of its file.
+use Rattle.std.specs.Prelude.{◌≡◌, ℕ, Bool, List, [], ◌∷◌, ◌++◌, Option, Some, None, codes, ⊤}
+use Rattle.hv_tree.specs.declared.refusal.Refusal.{Refusal}
 use Rattle.hv_tree.specs.declared.ast.Tree.{Tree}
+use Rattle.hv_tree.specs.Printed.{Printed}
+use Rattle.hv_words.specs.Taken.{Asked, check, show, plain, run}
+use Rattle.hv_check.specs.Checks.{IsAccepted, IsFirst}
 use Rattle.hv_meaning.specs.declared.node.TaskNode.{TaskNode}
 use Rattle.hv_meaning.specs.declared.node.End.{End}
 use Rattle.hv_meaning.specs.declared.node.End.TheVariants as end
 use Rattle.hv_meaning.specs.Meaning.{node_of}
+use Rattle.hv_meaning.specs.Runs.{Runs}
 use Rattle.hv_driver.specs.declared.status.Status.{Status}
 use Rattle.hv_driver.specs.declared.status.Status.TheVariants.{Done, Refused, Trapped, Spent, SourceFault, NoMemory}
-use Rattle.hv_driver.specs.Source.{IsSource}
-use Rattle.hv_driver.specs.Report.{report_of}
+use Rattle.hv_driver.specs.Report.{refusal_line, report_of}
 use Rattle.hv_driver.specs.Delivers.{Delivers}
 use Rattle.hv_driver.specs.Took.{ReadsFile}
 
@@ -20,31 +24,49 @@ status_of end.Done = Done
 status_of (end.Trap kind place) = Trapped
 status_of (end.Spent place) = Spent
 
--- the bytes are of no program of the small grammar
-pub record IsRefused (bytes : List ℕ) (status : Status) (text : List ℕ) : Type 0 where
-  pub no_tree : (tree : Tree) → IsSource bytes tree → ⊥
-  pub ends : status ≡ Refused
-  pub writes : text ≡ codes "refused N0 at 1:1" ++ 10 ∷ []
+-- ---- orders
 
--- the bytes spell a tree, and the text is the report of its run with 10,000,000 steps
-pub record IsReport (bytes : List ℕ) (status : Status) (text : List ℕ) : Type 0 where
-  pub tree : Tree
-  pub spelled : IsSource bytes tree
-  pub node : TaskNode
-  pub ran : node_of tree 10000000 ≡ Some node
-  pub ends : status ≡ status_of node.end
-  pub writes : text ≡ report_of bytes node
+abbrev pub file_of : Asked → List ℕ
+file_of (check file) = file
+file_of (show file) = file
+file_of (plain file steps trace) = file
+file_of (run file steps trace) = file
 
-abbrev pub Answers : List ℕ → Status → List ℕ → Type 0
-Answers bytes status text = IsRefused bytes status text ⊎ IsReport bytes status text
+abbrev pub IsCheck : Asked → Type 0
+IsCheck asked = (file : List ℕ) × (asked ≡ check file)
+
+abbrev pub IsShow : Asked → Type 0
+IsShow asked = (file : List ℕ) × (asked ≡ show file)
+
+-- the steps of a run and whether a trace is asked for; `plain` and `run` answer alike
+abbrev pub run_of : Asked → Option (ℕ × Bool)
+run_of (check file) = None
+run_of (show file) = None
+run_of (plain file steps trace) = Some (steps, trace)
+run_of (run file steps trace) = Some (steps, trace)
+
+-- ---- answers
+
+-- The status and the text for an order and bytes, one case a line of the command's table.
+pub data Answers (asked : Asked) (bytes : List ℕ) (status : Status) (text : List ℕ) : Type 0 where
+  -- the first rule that the bytes violate
+  refused : (refusal : Refusal) → IsFirst bytes refusal → status ≡ Refused → text ≡ refusal_line bytes refusal → Answers asked bytes status text
+  checked : (tree : Tree) → IsAccepted bytes tree → IsCheck asked → status ≡ Done → text ≡ codes "accepted" ++ 10 ∷ [] → Answers asked bytes status text
+  shown : (tree : Tree) → IsAccepted bytes tree → IsShow asked → status ≡ Done → text ≡ Printed tree → Answers asked bytes status text
+  -- there is no meaning yet for this program
+  unready : (tree : Tree) (steps : ℕ) (trace : Bool) → IsAccepted bytes tree → run_of asked ≡ Some (steps, trace) → (Runs tree → ⊥) →
+      status ≡ Refused → text ≡ codes "refused U1 at 1:1" ++ 10 ∷ [] → Answers asked bytes status text
+  -- the report of the run that the meaning gives
+  ran : (tree : Tree) (steps : ℕ) (trace : Bool) (node : TaskNode) → IsAccepted bytes tree → run_of asked ≡ Some (steps, trace) → Runs tree → node_of tree steps ≡ Some node →
+      status ≡ status_of node.end → text ≡ report_of bytes node trace → Answers asked bytes status text
 
 -- the bytes of the file were read, and the sink got the answer for them
-pub record AnswersFile (told left : Option (List ℕ)) (result : Status) (before after : Option (List ℕ)) (faults now : ℕ) : Type 0 where
+pub record AnswersFile (asked : Asked) (told left : Option (List ℕ)) (result : Status) (before after : Option (List ℕ)) (faults now : ℕ) : Type 0 where
   pub bytes : List ℕ
   pub read : ReadsFile told left bytes
   pub status : Status
   pub text : List ℕ
-  pub answers : Answers bytes status text
+  pub answers : Answers asked bytes status text
   pub delivered : Delivers status result text before after faults now
 
 -- P, unless the source couldn't be read or memory ran out
@@ -52,3 +74,8 @@ abbrev pub IfAnswered : Status → Type 0 → Type 0
 IfAnswered SourceFault P = ⊤
 IfAnswered NoMemory P = ⊤
 IfAnswered _ P = P
+
+-- P, unless memory ran out
+abbrev pub UnlessNoMemory : Status → Type 0 → Type 0
+UnlessNoMemory NoMemory P = ⊤
+UnlessNoMemory _ P = P

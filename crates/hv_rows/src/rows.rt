@@ -6,7 +6,7 @@ use std::test::Fail;
 #[test]
 fn each_source_has_its_answer(rt: HostRuntime) -> Result<(), Fail> {
     let alloc = rt.alloc();
-    let refused = b"refused N0 at 1:1\n".as_slice();
+    let unready = b"refused U1 at 1:1\n".as_slice();
     let rows: [(&[u8], Status, &[u8]); 14] = [
         (b"fun main() { print(1 + 2) }", Status::Done, b"3\n"),
         (
@@ -14,7 +14,7 @@ fn each_source_has_its_answer(rt: HostRuntime) -> Result<(), Fail> {
             Status::Trapped,
             b"trap overflow at 1:40 in 0\n",
         ),
-        (b"", Status::Refused, refused),
+        (b"", Status::Refused, unready),
         (
             b"fun main() { print(1)print(2 - 5) }",
             Status::Done,
@@ -32,28 +32,93 @@ fn each_source_has_its_answer(rt: HostRuntime) -> Result<(), Fail> {
             b"-9223372036854775808\n",
         ),
         (
-            b"fun main() { print(0 - 9223372036854775807 - 2) }",
-            Status::Trapped,
-            b"trap overflow at 1:44 in 0\n",
+            b"fun main() { print((1 + 2) * 3) // nine\n}",
+            Status::Done,
+            b"9\n",
         ),
         (
             b"fun main() { print(9223372036854775808) }",
             Status::Refused,
-            refused,
+            b"refused L3 at 1:20\n",
         ),
-        (b"fun main() { print(1 2) }", Status::Refused, refused),
-        (b"fun main() { print(1 * 2) }", Status::Refused, refused),
-        (b"funmain() { }", Status::Refused, refused),
-        (b"fun main() { print(1) } ", Status::Done, b"1\n"),
-        (b"fun main() { print(1) } }", Status::Refused, refused),
+        (
+            b"fun main() { print(1 2) }",
+            Status::Refused,
+            b"refused P1 at 1:22\n",
+        ),
+        (
+            b"fun main() { print(1 @) }",
+            Status::Refused,
+            b"refused L2 at 1:22\n",
+        ),
+        (b"funmain() { }", Status::Refused, b"refused P1 at 1:1\n"),
+        (b"fun main() { return; }", Status::Refused, unready),
+        (
+            b"fun main() { print(1) } }",
+            Status::Refused,
+            b"refused P1 at 1:25\n",
+        ),
     ];
     for (text, status, written) in rows {
-        for most in [1, 2, 7, 4096] {
+        for most in [1, 4096] {
             let source = source_of(alloc, text, Vec::new(alloc), most)?;
             let ran = run(alloc, &["run", "F"], source, 1000)?;
             assert_eq!(rt; ran.status, status, "at {text:?} by {most}");
             assert_eq!(rt; ran.written.as_slice(), written, "at {text:?} by {most}");
         }
+    }
+    Ok(())
+}
+
+#[test]
+fn each_command_has_its_answer(rt: HostRuntime) -> Result<(), Fail> {
+    let alloc = rt.alloc();
+    let two = b"fun main() { print(1) print(2) }".as_slice();
+    let rows: [(&[&str], &[u8], Status, &[u8]); 8] = [
+        (&["check", "F"], b"", Status::Done, b"accepted\n"),
+        (
+            &["check", "F"],
+            b"fun main() {",
+            Status::Refused,
+            b"refused P1 at 1:13\n",
+        ),
+        (
+            &["show", "F"],
+            b"fun main(){print((1+2)*3)}",
+            Status::Done,
+            b"fun main() {\n  print((1 + 2) * 3)\n}\n",
+        ),
+        (&["plain", "F"], two, Status::Done, b"1\n2\n"),
+        (
+            &["run", "--trace", "F"],
+            two,
+            Status::Done,
+            b"1\n2\ntask 0 steps 2 done\n",
+        ),
+        (
+            &["run", "F", "--steps", "1"],
+            two,
+            Status::Spent,
+            b"1\nspent at 1:23 in 0\n",
+        ),
+        (
+            &["plain", "--steps", "1", "F", "--trace"],
+            two,
+            Status::Spent,
+            b"1\nspent at 1:23 in 0\ntask 0 steps 1 spent at 1:23 in 0\n",
+        ),
+        (
+            &["plain", "F"],
+            b"fun f() { }",
+            Status::Refused,
+            b"refused U1 at 1:1\n",
+        ),
+    ];
+    for (words, text, status, written) in rows {
+        let source = source_of(alloc, text, Vec::new(alloc), 4096)?;
+        let ran = run(alloc, words, source, 1000)?;
+        assert_eq!(rt; ran.status, status, "at {words:?}");
+        assert_eq!(rt; ran.written.as_slice(), written, "at {words:?}");
     }
     Ok(())
 }

@@ -1,27 +1,40 @@
-use Rattle.std.proofs.Common.{◌≡◌, ap, sym, subst, ◌∙◌, Some, map}
-use Rattle.std.specs.Option.{option_copied}
-use Rattle.hv_driver.specs.Words.{taken, word_of}
-use Rattle.hv_driver.specs.Answer.{Answers}
+use Rattle.std.proofs.Common.{◌≡◌, refl, ap, sym, subst, map, Err}
+use Rattle.std.specs.Prelude.{string_bytes}
+use Rattle.hv_words.specs.Answers.{asked_of}
+use Rattle.hv_words.specs.Answers as words
+use Rattle.hv_driver.specs.Answer.{Answers, usage_line}
 use Rattle.hv_driver.specs.Delivers.{Delivers}
-use Rattle.hv_driver.proofs.Ends.{answer_ordinary, no_source_fault, no_want, no_usage, sink_rose, answered}
+use Rattle.hv_driver.specs.Took.{ReadsFile}
+use Rattle.hv_driver.specs.declared.status.Status.TheVariants.{Usage}
+use Rattle.hv_driver.proofs.Ends.{answer_ordinary, no_source_fault, no_want, no_usage, sink_rose, answered, unless}
 use Rattle.hv_driver.proofs.top.alone.Goals as goal
 
-pub returns-clause-usage_only : goal.returns-clause-usage_only
-returns-clause-usage_only g c = λ e. absurd (no_usage _ _ _ _ _ _ _ (answer_ordinary _ _ _ c.in-Ok-answer.ensures) c.deliver-in-Ok-answer.ensures e)
+pub returns-in-Err-Usage-clause-untaken : goal.returns-in-Err-Usage-clause-untaken
+returns-in-Err-Usage-clause-untaken g c = λ n. (refl, unless c.deliver.result _ c.deliver.ensures)
 
-pub returns-clause-source_fault : goal.returns-clause-source_fault
-returns-clause-source_fault g c = λ e. absurd (no_source_fault _ _ _ _ _ _ _ (answer_ordinary _ _ _ c.in-Ok-answer.ensures) c.deliver-in-Ok-answer.ensures e)
+pub returns-in-Err-Usage-clause-answer : goal.returns-in-Err-Usage-clause-answer
+returns-in-Err-Usage-clause-answer g c = λ asked taken. absurd (subst (λ e. words.Answers (map string_bytes c.args.words.now) (Err e)) c.in-Err-Usage.field-0-is c.in-Err-Usage.ensures asked taken)
 
-pub returns-clause-no_memory : goal.returns-clause-no_memory
-returns-clause-no_memory g c = λ e. absurd (no_want _ _ _ _ _ _ _ (answer_ordinary _ _ _ c.in-Ok-answer.ensures) c.deliver-in-Ok-answer.ensures e)
+pub returns-in-Err-Fault-clause-untaken : goal.returns-in-Err-Fault-clause-untaken
+returns-in-Err-Fault-clause-untaken g c = λ n. absurd (n (asked_of c.in-Ok.order) c.in-Ok.ensures.0)
 
-pub returns-clause-sink_fault : goal.returns-clause-sink_fault
-returns-clause-sink_fault g c = λ e. sink_rose _ _ _ _ _ _ _ (answer_ordinary _ _ _ c.in-Ok-answer.ensures) c.deliver-in-Ok-answer.ensures e
+pub returns-in-Err-Memory-clause-untaken : goal.returns-in-Err-Memory-clause-untaken
+returns-in-Err-Memory-clause-untaken g c = λ n. absurd (n (asked_of c.in-Ok.order) c.in-Ok.ensures.0)
+
+pub returns-in-Err-clause-untaken : goal.returns-in-Err-clause-untaken
+returns-in-Err-clause-untaken g c = λ n. absurd (n (asked_of c.in-Ok.order) c.in-Ok.ensures.0)
+
+pub returns-clause-untaken : goal.returns-clause-untaken
+returns-clause-untaken g c = λ n. absurd (n (asked_of c.in-Ok.order) c.in-Ok.ensures.0)
 
 pub returns-clause-answer : goal.returns-clause-answer
 returns-clause-answer g c =
+    let one = asked_of c.in-Ok.order in
+    let source = c.in-Ok-read_file.source.items in
     let status = c.in-Ok-answer.status in
-    let words : taken (map word_of c.args.words.now) ≡ Some c.in-Some.file.now = sym c.file_of.ensures ∙ ap option_copied c.in-Some.is in
-    let ans : Answers c.in-Ok.source.items status c.in-Ok-answer.text.items = subst (λ bs. Answers bs status c.in-Ok-answer.text.items) c.as_slice.ensures.value c.in-Ok-answer.ensures in
-    let d = subst (λ t. Delivers status c.deliver-in-Ok-answer.result t (g.K.Sink.written c.args.out.now) (g.K.Sink.written c.deliver-in-Ok-answer.new.out) (g.K.Sink.faults c.args.out.now) (g.K.Sink.faults c.deliver-in-Ok-answer.new.out)) c.as_slice-in-Ok-answer.ensures.value c.deliver-in-Ok-answer.ensures in
-    answered (taken (map word_of c.args.words.now)) c.in-Some.file.now (g.S.Source.files c.args.src.now) _ c.in-Ok.source.items status c.deliver-in-Ok-answer.result c.in-Ok-answer.text.items _ _ _ _ words c.in-Ok.ensures.bytes ans d
+    let text = c.in-Ok-answer.text.items in
+    let end = c.deliver-in-Ok-answer in
+    let read = subst (λ f. ReadsFile (g.S.Source.files c.args.src.now f) (g.S.Source.left c.read_file.new.src) source) c.file_of.ensures c.in-Ok-read_file.ensures.bytes in
+    let ans : Answers one source status text = subst (λ bs. Answers one bs status text) c.as_slice.ensures.value c.in-Ok-answer.ensures in
+    let d = subst (λ t. Delivers status end.result t (g.K.Sink.written c.args.out.now) (g.K.Sink.written end.new.out) (g.K.Sink.faults c.args.out.now) (g.K.Sink.faults end.new.out)) c.as_slice-in-Ok-answer.ensures.value end.ensures in
+    answered (map string_bytes c.args.words.now) one (g.S.Source.files c.args.src.now) _ source status end.result text _ _ _ _ c.in-Ok.ensures.1 read ans d

@@ -1,0 +1,2 @@
+-- the source's tokens are the lexer's
+pub mod Sources

@@ -1,0 +1,8 @@
+//! The program of a source, or the first rule that the source violates.
+#![tactic(auto)]
+
+mod phases;
+#[cfg(test)]
+mod tests;
+
+pub use phases::{CheckEnd, check};

@@ -1,0 +1,16 @@
+//! The one tree that tokens spell, or the exact place of the refusal.
+#![tactic(auto)]
+
+mod bindings;
+mod branches;
+mod declarations;
+mod items;
+mod knot;
+mod marks;
+mod parsed;
+mod statements;
+mod tasks;
+#[cfg(test)]
+mod tests;
+
+pub use parsed::{ParseEnd, parse};
