@@ -8,8 +8,6 @@ program=crates/hv_lex_bench/out/hv_lex_bench
 total=$((32 * 1048576))
 folder=$(mktemp -d)
 trap 'rm -rf "$folder"' EXIT
-# so that the C library keeps the memory of a round for the next; else each round of the larger sizes pays for new pages
-export MALLOC_MMAP_THRESHOLD_=1073741824 MALLOC_TRIM_THRESHOLD_=1073741824
 TIMEFORMAT='%U %S'
 
 text() {

@@ -67,7 +67,8 @@ fn lex_text(alloc: Global, text: &str) -> Result<(Items<Token>, Option<Refusal>)
     requires { length text.now < 4294967296 }
     ensures { IfOk result (λ read. Reads text.now read.0 read.1) }
 {
-    let mut tokens = Items::new(alloc);
+    // room for three tokens in four bytes, which few sources pass; what isn't used is never touched
+    let mut tokens = Items::from_vec(Vec::with_capacity(alloc, text.len() / 4 * 3)?);
     let mut rest = behind_mark(text);
     let mut at = text.len() - rest.len();
     while let Some((sort, piece, after)) = first_piece(rest) {
