@@ -1,0 +1,16 @@
+pub mod Lists
+pub mod Declaring
+pub mod Parts
+pub mod Members
+pub mod Repeated
+pub mod Walked
+pub mod Agreeing
+pub mod Sited
+pub mod Unknown
+pub mod Judged
+pub mod Bodies
+pub mod Shares
+pub mod Placed
+pub mod Soundness
+pub mod Wholeness
+pub mod Firsts

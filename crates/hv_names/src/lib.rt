@@ -1,0 +1,15 @@
+//! The first violation of the rules of names.
+#![tactic(auto)]
+
+mod declared;
+mod decls;
+mod entry;
+mod first;
+mod phases;
+mod program;
+#[cfg(test)]
+mod tests;
+mod types;
+mod walk;
+
+pub use phases::names;
