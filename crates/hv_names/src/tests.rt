@@ -56,17 +56,22 @@ fn lambda(alloc: Global, captures: Vec<Name>, stmts: Vec<Stmt>) -> Result<Expr, 
     expr(alloc, HERE, kind)
 }
 
+// `fun NAME(PARAMS) -> RESULT { STMTS }`
+fn fun_with(
+    alloc: Global,
+    name: Name,
+    params: Vec<Param>,
+    returned: Option<Ty>,
+    stmts: Vec<Stmt>,
+) -> Result<Decl, NoMemory> {
+    let body = body(alloc, stmts)?;
+    decl_fun(alloc, fun_decl(alloc, name, params, returned, body)?)
+}
+
 // `fun NAME() { STMTS }`
 fn fun(alloc: Global, text: &str, start: u32, stmts: Vec<Stmt>) -> Result<Decl, NoMemory> {
-    let body = body(alloc, stmts)?;
-    let declared = fun_decl(
-        alloc,
-        named(alloc, text, start)?,
-        Vec::new(alloc),
-        None,
-        body,
-    )?;
-    decl_fun(alloc, declared)
+    let name = named(alloc, text, start)?;
+    fun_with(alloc, name, Vec::new(alloc), None, stmts)
 }
 
 // `NAME: Int`
@@ -77,9 +82,8 @@ fn int_param(alloc: Global, text: &str, start: u32) -> Result<Param, NoMemory> {
 
 // `fun main(PARAMS) -> RESULT { }` from the first byte on
 fn main_with(alloc: Global, params: Vec<Param>, returned: Option<Ty>) -> Result<Decl, NoMemory> {
-    let body = body(alloc, Vec::new(alloc))?;
     let main = named(alloc, "main", 4)?;
-    decl_fun(alloc, fun_decl(alloc, main, params, returned, body)?)
+    fun_with(alloc, main, params, returned, Vec::new(alloc))
 }
 
 // `fun main() { STMTS }` from the first byte on
@@ -132,10 +136,13 @@ fn a_name_may_not_be_declared_twice(rt: HostRuntime) -> Result<(), Fail> {
     let decls = vec![in alloc; point(alloc, &["x", "y"])?, main()?]?;
     assert_eq!(rt; judged(alloc, decls)?, None);
 
-    // `fun main(x: Int, x: Int) { }`: the name comes before the missing `main`
-    let params = vec![in alloc; int_param(alloc, "x", 9)?, int_param(alloc, "x", 17)?]?;
-    let decls = vec![in alloc; main_with(alloc, params, None)?]?;
-    assert_eq!(rt; judged(alloc, decls)?, refused(Rule::N3, 0));
+    // `fun main() { } fun f(x: Int, x: Int) { }`, and with y
+    for (second, want) in [("x", refused(Rule::N1, 30)), ("y", None)] {
+        let params = vec![in alloc; int_param(alloc, "x", 22)?, int_param(alloc, second, 30)?]?;
+        let name = named(alloc, "f", 20)?;
+        let f = fun_with(alloc, name, params, None, Vec::new(alloc))?;
+        assert_eq!(rt; judged(alloc, vec![in alloc; main()?, f]?)?, want);
+    }
 
     // `fun main() { { var x: Int = 1 } var x: Int = 1 }`, and with y
     let inner = in_block(alloc, int_var(alloc, "x", 19)?)?;
@@ -192,11 +199,24 @@ fn a_name_stands_for_something_visible(rt: HostRuntime) -> Result<(), Fail> {
     let decls = vec![in alloc; main_of(alloc, vec![in alloc; x]?)?]?;
     assert_eq!(rt; judged(alloc, decls)?, refused(Rule::N2, 26));
 
+    // `fun main() { var y: Int = 1 var x: Int = y }`
+    let y = int_var(alloc, "y", 17)?;
+    let x = var(alloc, "x", 32, ty_int(alloc, HERE)?, path(alloc, "y", 41)?)?;
+    let decls = vec![in alloc; main_of(alloc, vec![in alloc; y, x]?)?]?;
+    assert_eq!(rt; judged(alloc, decls)?, None);
+
     // `fun main() { var x: main = 1 }`: a function's name is no type
     let ty = ty_named(alloc, named(alloc, "main", 20)?)?;
     let x = var(alloc, "x", 17, ty, one(alloc)?)?;
     let decls = vec![in alloc; main_of(alloc, vec![in alloc; x]?)?]?;
     assert_eq!(rt; judged(alloc, decls)?, refused(Rule::N2, 20));
+
+    // `struct P { } fun main() { var x: P = 1 }`: names alone are judged here
+    let ty = ty_named(alloc, named(alloc, "P", 33)?)?;
+    let x = var(alloc, "x", 30, ty, one(alloc)?)?;
+    let main = fun(alloc, "main", 17, vec![in alloc; x]?)?;
+    let decls = vec![in alloc; point(alloc, &[])?, main]?;
+    assert_eq!(rt; judged(alloc, decls)?, None);
     Ok(())
 }
 
@@ -232,6 +252,13 @@ fn a_program_has_a_main(rt: HostRuntime) -> Result<(), Fail> {
     let alloc = rt.alloc();
     assert_eq!(rt; judged(alloc, Vec::new(alloc))?, refused(Rule::N3, 0));
     let decls = vec![in alloc; fun(alloc, "f", 4, Vec::new(alloc))?]?;
+    assert_eq!(rt; judged(alloc, decls)?, refused(Rule::N3, 0));
+    // `fun main(x: Int) { }` and `fun main() -> Int { }`
+    let params = vec![in alloc; int_param(alloc, "x", 9)?]?;
+    let decls = vec![in alloc; main_with(alloc, params, None)?]?;
+    assert_eq!(rt; judged(alloc, decls)?, refused(Rule::N3, 0));
+    let returned = Some(ty_int(alloc, HERE)?);
+    let decls = vec![in alloc; main_with(alloc, Vec::new(alloc), returned)?]?;
     assert_eq!(rt; judged(alloc, decls)?, refused(Rule::N3, 0));
     let decls = vec![in alloc; main_of(alloc, Vec::new(alloc))?]?;
     assert_eq!(rt; judged(alloc, decls)?, None);
