@@ -1,8 +1,12 @@
 pub mod LineLemmas
 pub mod TakenLemmas
-pub mod OrderLemmas
-pub mod LeftLemmas
 pub mod NumberLemmas
-pub mod ClapLemmas
+pub mod Rules
+pub mod NameLemmas
+pub mod Walks
+pub mod Faulted
+pub mod Found
+pub mod Ranges
 pub mod SettingsLemmas
+pub mod OrderLemmas
 pub mod AnswerLemmas

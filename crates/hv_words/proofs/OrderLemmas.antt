@@ -1,7 +1,7 @@
 -- The items of a line are the only ones, and so is what they ask for.
-use Rattle.std.proofs.Common.{◌≡◌, ◌∙◌, ℕ, List, [], ◌∷◌, sym, subst, ap, refl}
+use Rattle.std.proofs.Common.{◌≡◌, ◌∙◌, ℕ, Bool, List, [], ◌∷◌, map, sym, subst, ap, refl}
 use Rattle.std.specs.Prelude.{Option, Some, None}
-use Rattle.hv_words.specs.Taken.{AllFit, Asked, Asks, Form, Item, SetsTo, Setting, Taken, Word, check, flag, form_of, option, plain, positional, run, show, spelled, steps_option, value_of}
+use Rattle.hv_words.specs.Taken.{AllFit, Asked, Asks, Entered, Form, Item, Sets, SetsEach, SetsTo, Setting, Taken, Word, check, dashed, entered, flag, has_flag, option, plain, positional, run, show, spelled, value_of}
 use Rattle.hv_words.specs.Line.{form, subcommand_named}
 use Rattle.hv_words.specs.declared.subcommand.Subcommand.{Subcommand}
 use Rattle.hv_words.specs.declared.subcommand.Subcommand.TheVariants.{Check, Show, Plain, Run}
@@ -67,7 +67,7 @@ subcommand_of (show file) = Show
 subcommand_of (plain file steps trace) = Plain
 subcommand_of (run file steps trace) = Run
 
-pub form_is : (asked : Asked) → form (subcommand_of asked) ≡ form_of asked
+pub form_is : (a : Asked) → form (subcommand_of a) ≡ (entered a).form
 form_is (check file) = refl
 form_is (show file) = refl
 form_is (plain file steps trace) = refl
@@ -79,44 +79,65 @@ name_is Show = refl
 name_is Plain = refl
 name_is Run = refl
 
-pub named_asked : (asked : Asked) → subcommand_named (form_of asked).name ≡ Some (subcommand_of asked)
-named_asked (check file) = refl
-named_asked (show file) = refl
-named_asked (plain file steps trace) = refl
-named_asked (run file steps trace) = refl
+pub named_asked : (a : Asked) → subcommand_named (entered a).form.name ≡ Some (subcommand_of a)
+named_asked a = ap (λ f. subcommand_named f.name) (sym (form_is a)) ∙ name_is (subcommand_of a)
 
 -- ---- one order
+
+-- what is entered is one order
+entered_once : (a b : Asked) → Some (subcommand_of a) ≡ Some (subcommand_of b) → entered a ≡ entered b → a ≡ b
+entered_once (check f) (check g) s e = ap (λ d. check d.file) e
+entered_once (show f) (show g) s e = ap (λ d. show d.file) e
+entered_once (plain f n t) (plain g m u) s e =
+    let file : f ≡ g = ap (λ d. d.file) e in
+    let numbers : n ∷ [] ≡ m ∷ [] = ap (λ d. d.numbers) e in
+    let marks : t ∷ [] ≡ u ∷ [] = ap (λ d. d.marks) e in
+    cc
+entered_once (run f n t) (run g m u) s e =
+    let file : f ≡ g = ap (λ d. d.file) e in
+    let numbers : n ∷ [] ≡ m ∷ [] = ap (λ d. d.numbers) e in
+    let marks : t ∷ [] ≡ u ∷ [] = ap (λ d. d.marks) e in
+    cc
+entered_once a b s e = absurd cc
 
 sets_once : (setting : Setting) (o : Option Word) (n m : ℕ) → SetsTo setting o n → SetsTo setting o m → n ≡ m
 sets_once setting None n m a b = a ∙ sym b
 sets_once setting (Some value) n m a b = a.0 ∙ sym b.0
 
+numbers_once : (options : List Setting) (items : List Item) (ns ms : List ℕ) → SetsEach options items ns → SetsEach options items ms → ns ≡ ms
+numbers_once [] items [] [] a b = refl
+numbers_once [] items (n ∷ ns) ms a b = absurd a
+numbers_once [] items [] (m ∷ ms) a b = absurd b
+numbers_once (o ∷ options) items [] ms a b = absurd a
+numbers_once (o ∷ options) items (n ∷ ns) [] a b = absurd b
+numbers_once (o ∷ options) items (n ∷ ns) (m ∷ ms) a b =
+    let first : n ≡ m = sets_once o (value_of (dashed o.name) items) n m a.0 b.0 in
+    let rest = numbers_once options items ns ms a.1 b.1 in
+    cc
+
 same_file : (w v : Word) (ws : List Word) → ws ≡ w ∷ [] → ws ≡ v ∷ [] → w ≡ v
 same_file w v ws a b = cc
 
-asks_once : (items : List Item) (a b : Asked) → Some (subcommand_of a) ≡ Some (subcommand_of b) → Asks items a → Asks items b → a ≡ b
-asks_once items (check f) (check g) s p q = ap check (same_file f g _ p q)
-asks_once items (show f) (show g) s p q = ap show (same_file f g _ p q)
-asks_once items (plain f n t) (plain g m u) s p q =
-    let file : f ≡ g = same_file f g _ p.0 q.0 in
-    let steps : n ≡ m = sets_once steps_option (value_of steps_option.name items) n m p.1 q.1 in
-    let trace : t ≡ u = p.2 ∙ sym q.2 in
-    cc
-asks_once items (run f n t) (run g m u) s p q =
-    let file : f ≡ g = same_file f g _ p.0 q.0 in
-    let steps : n ≡ m = sets_once steps_option (value_of steps_option.name items) n m p.1 q.1 in
-    let trace : t ≡ u = p.2 ∙ sym q.2 in
-    cc
-asks_once items a b s p q = absurd cc
+made : Form → Word → List ℕ → List Bool → Entered
+made f file numbers marks = record { form = f; file = file; numbers = numbers; marks = marks }
+
+asks_once : (items : List Item) (d e : Entered) → d.form ≡ e.form → Asks items d → Asks items e → d ≡ e
+unfolding made
+asks_once items d e forms p q =
+    let file : d.file ≡ e.file = same_file d.file e.file _ p.0 q.0 in
+    let numbers : d.numbers ≡ e.numbers = numbers_once d.form.options items d.numbers e.numbers p.1 (subst (λ f. SetsEach f.options items e.numbers) (sym forms) q.1) in
+    let marks : d.marks ≡ e.marks = p.2 ∙ (ap (λ f. map (λ name. has_flag (dashed name) items) f.flags) forms ∙ sym q.2) in
+    let all : made d.form d.file d.numbers d.marks ≡ made e.form e.file e.numbers e.marks = cc in
+    all
 
 -- words are taken in one way
 pub taken_once : (words : List Word) (a b : Asked) → Taken words a → Taken words b → a ≡ b
 taken_once words a b p q =
-    let names : (form_of a).name ≡ (form_of b).name = cc in
+    let names : (entered a).form.name ≡ (entered b).form.name = cc in
     let subs : Some (subcommand_of a) ≡ Some (subcommand_of b) = sym (named_asked a) ∙ ap subcommand_named names ∙ named_asked b in
     let sub : subcommand_of a ≡ subcommand_of b = cc in
-    let forms : form_of b ≡ form_of a = sym (form_is b) ∙ ap form (sym sub) ∙ form_is a in
+    let forms : (entered a).form ≡ (entered b).form = sym (form_is a) ∙ ap form sub ∙ form_is b in
     let spells : spelled p.0 ≡ spelled q.0 = cc in
-    let fits = rw forms at q.2 in
-    let items = items_once (form_of a) p.0 q.0 p.2 fits spells in
-    asks_once p.0 a b subs p.4 (subst (λ xs. Asks xs b) (sym items) q.4)
+    let fits = subst (λ f. AllFit f q.0) (sym forms) q.2 in
+    let items = items_once (entered a).form p.0 q.0 p.2 fits spells in
+    entered_once a b subs (asks_once p.0 (entered a) (entered b) forms p.4 (subst (λ xs. Asks xs (entered b)) (sym items) q.4))

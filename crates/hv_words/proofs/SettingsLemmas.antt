@@ -1,38 +1,155 @@
 -- From what clap found to the settings.
-use Rattle.std.proofs.Common.{◌≡◌, ◌∙◌, ◌≤◌, ◌^◌, ◌<◌, ℕ, Bool, true, false, List, [], codes, sym, subst, ap, refl, arith, inl, inr}
-use Rattle.std.specs.Prelude.{Option, Some, None, option_map, unwrap_or, Result, Ok, Err}
+use Rattle.std.proofs.Common.{◌≡◌, ◌∙◌, ◌&&◌, ◌≤◌, ◌^◌, ◌<◌, ℕ, Bool, true, false, not, List, [], ◌∷◌, map, sym, subst, ap, refl, arith, inl, inr, true≢false, ltb-true}
+use Rattle.std.specs.Prelude.{◌==◌, Option, Some, None, find, unwrap_or, Result, Ok, Err}
+use Rattle.std.specs.List.{list_all}
+use Rattle.std.specs.Option.{option_map_or}
+use Rattle.std.specs.Str.{bytes_eq}
 use Rattle.std.specs.Str.Parse.{ParsesUnsigned}
+use Rattle.std.proofs.lemmas.Bool.{eqb-true}
 use Rattle.clap.specs.Walk.{Text, one_of, rows_of}
 use Rattle.clap.specs.Simple.{App, HasMatchesOf, is_simple, matches_of}
 use Rattle.clap.specs.Matches.{ReadsOne, found_of, one_text}
 use Rattle.clap.specs.Faults.{fault_of, is_simple_and_free}
 use Rattle.clap.specs.Kinds.{HasKind, Kinds}
-use Rattle.clap.specs.Values.{kind_of, read_as, reading_of}
+use Rattle.clap.specs.Values.{kind_of}
 use Rattle.clap.specs.declared.error.Error.{Error}
 use Rattle.clap.specs.declared.error.kind.ErrorKind.TheVariants.{OutOfMemory}
 use Rattle.clap.specs.declared.parser.matches.ArgMatches.{ArgMatches}
-use Rattle.clap.proofs.WalkLemmas.{one_text-rows}
-use Rattle.hv_words.specs.Taken.{AllFit, AreNew, Item, Sets, SetsTo, Word, has_flag, is_number, number_of, plain_form, steps_option, trace_flag, value_of}
-use Rattle.hv_words.specs.Settings.{HasSettings, left_of}
-use Rattle.hv_words.specs.Reading.{app_by, end_by, settings_app, steps_parser}
+use Rattle.clap.proofs.OnLiterals.{clap_on_literals}
+use Rattle.clap.proofs.SimpleLemmas.{is_false}
+use Rattle.clap.proofs.WalkLemmas.{both, one_text-rows}
+use Rattle.hv_words.specs.Taken.{AllFit, AreNew, Form, Item, Setting, Sets, SetsEach, SetsTo, Word, dashed, has_flag, is_among, is_number, number_of, option_words, value_of}
+use Rattle.hv_words.specs.Line.{form}
+use Rattle.hv_words.specs.Settings.{AreMarksOf, AreNumbersOf, HasFlags, HasOptions, HasSettings, IsInRange, IsNumberOf, flag_text, left_of, text_at}
+use Rattle.hv_words.specs.Reading.{app_by, end_by}
 use Rattle.hv_words.specs.declared.order.WordsEnd.{WordsEnd}
 use Rattle.hv_words.specs.declared.order.WordsEnd.TheVariants.{Usage, NoMemory}
-use Rattle.hv_words.proofs.ClapLemmas.{Comes, flag_text, left_comes, passes, simple, simple_alone}
-use Rattle.hv_words.proofs.LeftLemmas.{left_forms}
-use Rattle.hv_words.proofs.NumberLemmas.{from_range, in_range, number_read}
+use Rattle.hv_words.specs.declared.settings.Settings.{Settings}
+use Rattle.hv_words.specs.declared.subcommand.Subcommand.{Subcommand}
+use Rattle.hv_words.specs.declared.subcommand.Subcommand.TheVariants.{Check, Show, Plain, Run}
+use Rattle.hv_words.proofs.Faulted.{fault_of_items}
+use Rattle.hv_words.proofs.Found.{flag_read, option_read}
+use Rattle.hv_words.proofs.NumberLemmas.{number_read}
+use Rattle.hv_words.proofs.Ranges.{InRanges, in_range_without_fault, no_fault_in_range, ranges_of}
+use Rattle.hv_words.proofs.Rules.{Names, same_word, setting_by}
+use Rattle.hv_words.proofs.Walks.{is_named}
 
-abbrev pub NumberIf : Option Word → Type 0
-NumberIf None = Unit {0}
-NumberIf (Some value) = is_number value ≡ true
+-- ---- tests of a row of the table
 
-number_if : (items : List Item) → AllFit plain_form items → AreNew [] items → NumberIf (value_of steps_option.name items)
-number_if items fits new = left_forms (λ left value trace. NumberIf value) items fits new tt tt (λ v h. h) (λ v h. h) (λ v h. h)
+-- the option is the first one of its name, and no flag has its name
+abbrev pub is_own : Form → Setting → Bool
+is_own f o =
+    option_map_or (λ p. p.least == o.least && (p.most == o.most && p.fallback == o.fallback)) (setting_by f.options o.name) false
+    && (not (is_among o.name f.flags) && is_among (dashed o.name) (option_words f))
 
-as_written : (o : Option Word) → option_map (read_as (reading_of steps_parser)) o ≡ o
-as_written None = refl
-as_written (Some v) = refl
+-- the flag is one of the row, and no option has its name
+abbrev pub is_flag : Form → Word → Bool
+is_flag f name = not (is_among (dashed name) (option_words f)) && is_among name f.flags
 
--- the number that was read
+abbrev pub is_apart : Form → Bool
+is_apart f = list_all (is_own f) f.options && list_all (is_flag f) f.flags
+
+pub record IsSound (f : Form) : Type 0 where
+  pub named : is_named f ≡ true
+  pub apart : is_apart f ≡ true
+  pub free : is_simple_and_free (app_by f) ≡ true
+
+-- every row of the table passes
+pub sound : (s : Subcommand) → IsSound (form s)
+unfolding app_by clap_on_literals
+sound Check = record { named = refl; apart = refl; free = refl }
+sound Show = record { named = refl; apart = refl; free = refl }
+sound Plain = record { named = refl; apart = refl; free = refl }
+sound Run = record { named = refl; apart = refl; free = refl }
+
+found_named : (options : List Setting) (name : Word) (p : Setting) → setting_by options name ≡ Some p → bytes_eq p.name name ≡ true
+found_named [] name p e = absurd cc
+found_named (x ∷ options) name p e = go (bytes_eq x.name name) refl (found_named options name p)
+  where
+    go : (b : Bool) → bytes_eq x.name name ≡ b → (setting_by options name ≡ Some p → bytes_eq p.name name ≡ true) → bytes_eq p.name name ≡ true
+    go true h more =
+        let found = rw h at e in
+        let is : x ≡ p = cc in
+        ap (λ s. bytes_eq s.name name) (sym is) ∙ h
+    go false h more =
+        let rest = rw h at e in
+        more rest
+
+made : Word → ℕ → ℕ → ℕ → Setting
+made name least most fallback = record { name = name; least = least; most = most; fallback = fallback }
+
+own_first : (f : Form) (o : Setting) → is_own f o ≡ true → setting_by f.options o.name ≡ Some o
+unfolding made
+own_first f o e = go (setting_by f.options o.name) refl (both _ _ e).0
+  where
+    go : (p : Option Setting) → setting_by f.options o.name ≡ p
+        → option_map_or (λ q. q.least == o.least && (q.most == o.most && q.fallback == o.fallback)) p false ≡ true → setting_by f.options o.name ≡ Some o
+    go None h k = absurd (true≢false (sym k))
+    go (Some p) h k =
+        let parts = both _ _ k in
+        let more = both _ _ parts.1 in
+        let name = same_word p.name o.name (found_named f.options o.name p h) in
+        let least = eqb-true p.least o.least parts.0 in
+        let most = eqb-true p.most o.most more.0 in
+        let fallback = eqb-true p.fallback o.fallback more.1 in
+        let is : made p.name p.least p.most p.fallback ≡ made o.name o.least o.most o.fallback = cc in
+        h ∙ ap (λ s. Some s) is
+
+-- ---- what was found
+
+module _ (f : Form) (is : IsSound f) (items : List Item) (fits : AllFit f items) (new : AreNew [] items) (s : Settings)
+    (text : (name : Word) → text_at s name ≡ one_of name (matches_of (app_by f) (left_of items))) (ranges : InRanges f.options items) where
+  options_are : (options : List Setting) → list_all (is_own f) options ≡ true → HasOptions s items options
+  options_are [] own = tt
+  options_are (o ∷ options) own =
+      let k = both _ _ own in
+      let m = both _ _ (both _ _ k.0).1 in (
+        (text o.name ∙ option_read f is.named items fits new o.name m.1 (is_false _ m.0), ranges o (own_first f o k.0)),
+        options_are options k.1,
+      )
+
+  flags_are : (flags : List Word) → list_all (is_flag f) flags ≡ true → HasFlags s items flags
+  flags_are [] own = tt
+  flags_are (name ∷ flags) own =
+      let k = both _ _ own in
+      let m = both _ _ k.0 in
+      (text name ∙ flag_read f is.named items fits new name (is_false _ m.0) m.1, flags_are flags k.1)
+
+module _ (f : Form) (is : IsSound f) (items : List Item) (fits : AllFit f items) (new : AreNew [] items) (words : List Word) (left : left_of items ≡ words)
+    (app : App) (app_is : app ≡ app_by f) where
+  is_free : is_simple_and_free app ≡ true
+  is_free = ap is_simple_and_free app_is ∙ is.free
+
+  is_plain : is_simple app ≡ true
+  is_plain = (both _ _ is_free).0
+
+  faults : fault_of app words ≡ fault_of (app_by f) (left_of items)
+  faults = ap (λ a. fault_of a words) app_is ∙ ap (fault_of (app_by f)) (sym left)
+
+  pub read_ok : (s : Settings) → HasMatchesOf app words s.matches → (is_simple_and_free app ≡ true → fault_of app words ≡ []) → HasSettings f items (Ok s)
+  read_ok s matches kinds =
+      let none = sym (fault_of_items f is.named items fits new) ∙ (sym faults ∙ kinds is_free) in
+      let ranges = in_range_without_fault f is.named items fits none in
+      let own = both _ _ is.apart in
+      let text : (name : Word) → text_at s name ≡ one_of name (matches_of (app_by f) (left_of items)) = λ name.
+      one_text-rows (found_of s.matches) name
+      ∙ ap (one_of name) ((matches is_plain).0 ∙ ap (λ a. matches_of a words) app_is ∙ ap (matches_of (app_by f)) (sym left)) in
+      (options_are f is items fits new s text ranges f.options own.0, flags_are f is items fits new s text ranges f.flags own.1)
+
+  memory_only : (kinds : Kinds) (e : Error) → kinds ≡ [] → HasKind kinds e → kind_of e ≡ OutOfMemory
+  memory_only kinds e none h = elim (subst (λ k. HasKind k e) none h) [ inl memory ↦ memory | inr other ↦ absurd other ]
+
+  pub read_err : (e : Error) (end : WordsEnd) → (is_simple_and_free app ≡ true → HasKind (fault_of app words) e) → end ≡ end_by (kind_of e)
+      → HasSettings f items (Err end)
+  read_err e NoMemory kinds end_is = tt
+  read_err e Usage kinds end_is = λ ns sets.
+      let none = faults ∙ fault_of_items f is.named items fits new ∙ no_fault_in_range f is.named items [] fits new (ranges_of f items ns fits sets) in
+      let memory = memory_only (fault_of app words) e none (kinds is_free) in
+      let bad : Usage ≡ NoMemory = end_is ∙ ap end_by memory in
+      absurd cc
+
+-- ---- numbers
+
 module _ {E : Type 0} (gives : List ℕ → Result ℕ E → Type 0) (only : (u : List ℕ) (x : Result ℕ E) → gives u x → ParsesUnsigned 64 10 u x) where
   one_is : (v : Word) (one : Option ℕ) → is_number v ≡ true → number_of v < 2 ^ 64 → ReadsOne gives v one → one ≡ Some (number_of v)
   one_is v (Some k) number fits h =
@@ -42,80 +159,33 @@ module _ {E : Type 0} (gives : List ℕ → Result ℕ E → Type 0) (only : (u 
       let read : ◌≡◌ {A = Result ℕ E} (Err h.0) (Ok (number_of v)) = number_read v (Err h.0) number (only v (Err h.0) h.1) fits in
       absurd cc
 
-  sets : (value : Option Word) (one : Option ℕ) (n : ℕ) (text : Option Text) → NumberIf value → passes steps_parser value ≡ true → text ≡ value
-      → (text ≡ None → one ≡ None) → ((t : List ℕ) → text ≡ Some t → ReadsOne gives t one)
-      → n ≡ unwrap_or one 10000000 → SetsTo steps_option value n
-  sets None one n text number pass is none value n_is = n_is ∙ ap (λ o. unwrap_or o 10000000) (none is)
-  sets (Some v) one n text number pass is none value n_is =
-      let range = in_range 1 1073741824 v number pass in
-      let fits : number_of v < 2 ^ 64 = omega arith in
-      let n_of : n ≡ number_of v = n_is ∙ ap (λ o. unwrap_or o 10000000) (one_is v one number fits (value v is)) in
-      (n_of, rw n_of range.0, rw n_of range.1)
+  pub number_is : (o : Setting) (text : Option Word) (one : Option ℕ) (n : ℕ) → (text ≡ None → one ≡ None)
+      → ((t : List ℕ) → text ≡ Some t → ReadsOne gives t one) → n ≡ unwrap_or one o.fallback → IsNumberOf o text n
+  number_is o None one n none value n_is = n_is ∙ ap (λ x. unwrap_or x o.fallback) (none refl)
+  number_is o (Some v) one n none value n_is = λ number fits. n_is ∙ ap (λ x. unwrap_or x o.fallback) (one_is v one number fits (value v refl))
 
-flag_is : (b trace : Bool) (text : Option Text) → text ≡ Some (flag_text trace)
-    → (text ≡ Some (codes "true") → b ≡ true) → (text ≡ Some (codes "false") → b ≡ false) → b ≡ trace
-flag_is b true text is set unset = set is
-flag_is b false text is set unset = unset is
+number_sets : (o : Setting) (text value : Option Word) (n : ℕ) → o.most < 2 ^ 64 → text ≡ value → IsInRange o value → IsNumberOf o text n → SetsTo o value n
+number_sets o text None n room is range number = subst (λ t. IsNumberOf o t n) is number
+number_sets o text (Some v) n room is range number =
+    let n_is : n ≡ number_of v = subst (λ t. IsNumberOf o t n) is number range.0 (omega (arith, room, range.2)) in
+    (n_is, subst (λ k. o.least ≤ k) (sym n_is) range.1, subst (λ k. k ≤ o.most) (sym n_is) range.2)
 
-module _ (items : List Item) (fits : AllFit plain_form items) (new : AreNew [] items) (words : List Word) (left : left_of items ≡ words)
-    (app : App) (app_is : app ≡ settings_app) where
-  by_parser : app ≡ app_by steps_parser
-  unfolding settings_app
-  by_parser = app_is
+pub numbers_set : (s : Settings) (items : List Item) (options : List Setting) (ns : List ℕ) → Names options ≡ true → HasOptions s items options → AreNumbersOf s options ns
+    → SetsEach options items ns
+numbers_set s items [] [] names has are = tt
+numbers_set s items [] (n ∷ ns) names has are = absurd are
+numbers_set s items (o ∷ options) [] names has are = absurd are
+numbers_set s items (o ∷ options) (n ∷ ns) names has are =
+    let k = both _ _ names in
+    let room = ltb-true o.most (2 ^ 64) (both _ _ k.0).1 in
+    (number_sets o (text_at s o.name) (value_of (dashed o.name) items) n room has.0.0 has.0.1 are.0, numbers_set s items options ns k.1 has.1 are.1)
 
-  is_free : is_simple_and_free app ≡ true
-  is_free = ap is_simple_and_free by_parser ∙ simple steps_parser
-
-  comes : Comes steps_parser words (value_of steps_option.name items) (has_flag trace_flag items)
-  comes = subst (λ ws. Comes steps_parser ws (value_of steps_option.name items) (has_flag trace_flag items)) left (left_comes steps_parser items fits new)
-
-  faults : fault_of app words ≡ fault_of (app_by steps_parser) words
-  faults = ap (λ a. fault_of a words) by_parser
-
-  passed : fault_of app words ≡ [] → (b : Bool) → passes steps_parser (value_of steps_option.name items) ≡ b → b ≡ true
-  passed none true h = refl
-  passed none false h =
-      let refused = sym (comes.refused h) ∙ sym faults ∙ none in
-      absurd cc
-
-  found : (m : ArgMatches) → HasMatchesOf app words m → rows_of (found_of m) ≡ matches_of (app_by steps_parser) words
-  found m h = (h (ap is_simple by_parser ∙ simple_alone steps_parser)).0 ∙ ap (λ a. matches_of a words) by_parser
-
-  steps_text : (m : ArgMatches) → HasMatchesOf app words m → one_text (found_of m) (codes "steps") ≡ value_of steps_option.name items
-  steps_text m h = one_text-rows (found_of m) (codes "steps") ∙ ap (one_of (codes "steps")) (found m h) ∙ comes.steps ∙ as_written (value_of steps_option.name items)
-
-  trace_text : (m : ArgMatches) → HasMatchesOf app words m → one_text (found_of m) (codes "trace") ≡ Some (flag_text (has_flag trace_flag items))
-  trace_text m h = one_text-rows (found_of m) (codes "trace") ∙ ap (one_of (codes "trace")) (found m h) ∙ comes.flag
-
-  pub read_ok : {E : Type 0} (gives : List ℕ → Result ℕ E → Type 0) → ((u : List ℕ) (x : Result ℕ E) → gives u x → ParsesUnsigned 64 10 u x)
-      → (m : ArgMatches) → HasMatchesOf app words m → (is_simple_and_free app ≡ true → fault_of app words ≡ [])
-      → (one : Option ℕ) (n : ℕ) (b : Bool)
-      → (one_text (found_of m) (codes "steps") ≡ None → one ≡ None)
-      → ((t : List ℕ) → one_text (found_of m) (codes "steps") ≡ Some t → ReadsOne gives t one)
-      → n ≡ unwrap_or one 10000000
-      → (one_text (found_of m) (codes "trace") ≡ Some (codes "true") → b ≡ true)
-      → (one_text (found_of m) (codes "trace") ≡ Some (codes "false") → b ≡ false)
-      → Sets steps_option items n × (b ≡ has_flag trace_flag items)
-  read_ok gives only m matches kinds one n b none value n_is set unset = (
-    sets gives only (value_of steps_option.name items) one n (one_text (found_of m) (codes "steps")) (number_if items fits new)
-        (passed (kinds is_free) (passes steps_parser (value_of steps_option.name items)) refl) (steps_text m matches) none value n_is,
-    flag_is b (has_flag trace_flag items) (one_text (found_of m) (codes "trace")) (trace_text m matches) set unset,
-  )
-
-  pass_if : (value : Option Word) (n : ℕ) → NumberIf value → SetsTo steps_option value n → passes steps_parser value ≡ true
-  pass_if None n number h = refl
-  pass_if (Some v) n number h =
-      from_range 1 1073741824 v number (omega arith) (subst (λ k. 1 ≤ k) h.0 h.1) (subst (λ k. k ≤ 1073741824) h.0 h.2)
-
-  memory_only : (kinds : Kinds) (e : Error) → kinds ≡ [] → HasKind kinds e → kind_of e ≡ OutOfMemory
-  memory_only kinds e none h = elim (subst (λ k. HasKind k e) none h) [ inl memory ↦ memory | inr other ↦ absurd other ]
-
-  pub read_err : (e : Error) (end : WordsEnd) → (is_simple_and_free app ≡ true → HasKind (fault_of app words) e) → end ≡ end_by (kind_of e)
-      → HasSettings items (Err end)
-  read_err e NoMemory kinds is = tt
-  read_err e Usage kinds is = λ n h.
-      let pass = pass_if (value_of steps_option.name items) n (number_if items fits new) h in
-      let none = faults ∙ comes.taken pass in
-      let memory = memory_only (fault_of app words) e none (kinds is_free) in
-      let bad : Usage ≡ NoMemory = is ∙ ap end_by memory in
-      absurd cc
+pub marks_are : (s : Settings) (items : List Item) (flags : List Word) (marks : List Bool) → HasFlags s items flags → AreMarksOf s flags marks
+    → marks ≡ map (λ name. has_flag (dashed name) items) flags
+marks_are s items [] [] has are = refl
+marks_are s items [] (m ∷ marks) has are = absurd are
+marks_are s items (name ∷ flags) [] has are = absurd are
+marks_are s items (name ∷ flags) (m ∷ marks) has are =
+    let first : m ≡ has_flag (dashed name) items = are.0 (has_flag (dashed name) items) has.0 in
+    let rest = marks_are s items flags marks has.1 are.1 in
+    cc

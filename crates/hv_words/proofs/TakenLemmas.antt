@@ -1,7 +1,7 @@
 -- The line that is read word by word is the items of the definition.
 use Rattle.std.proofs.Common.{◌≡◌, ◌∙◌, Bool, true, false, List, [], ◌∷◌, ◌++◌, sym, ap, refl, append_assoc, append-nil}
 use Rattle.std.specs.Prelude.{Option, Some, None, option_and_then, option_map}
-use Rattle.hv_words.specs.Taken.{AllFit, AreNew, Form, Item, Word, flag, is_among, is_number, is_positional, option, positional, positionals, spelled}
+use Rattle.hv_words.specs.Taken.{AllFit, AreNew, Form, Item, Word, flag, flag_words, is_among, is_number, is_positional, option, option_words, positional, positionals, spelled}
 use Rattle.hv_words.specs.Line.{Seen, ended, scan}
 use Rattle.hv_words.specs.Settings.{left_of}
 
@@ -82,7 +82,7 @@ read_value f word words file left names last rest number r = record {
 }
 
 read_option : (f : Form) (word : Word) (words : List Word) (file : Option Word) (left names : List Word) (last : Word) (rest : List Word)
-    → is_among word f.options ≡ true → is_among word names ≡ false
+    → is_among word (option_words f) ≡ true → is_among word names ≡ false
     → Read f words (state file (left ++ word ∷ []) (names ++ word ∷ []) true) last rest
     → Read f (word ∷ words) (state file left names false) last rest
 read_option f word words file left names last rest known fresh r = record {
@@ -97,7 +97,7 @@ read_option f word words file left names last rest known fresh r = record {
 }
 
 read_flag : (f : Form) (word : Word) (words : List Word) (file : Option Word) (left names : List Word) (last : Word) (rest : List Word)
-    → is_among word f.options ≡ false → is_among word f.flags ≡ true → is_among word names ≡ false
+    → is_among word (option_words f) ≡ false → is_among word (flag_words f) ≡ true → is_among word names ≡ false
     → Read f words (state file (left ++ word ∷ []) (names ++ word ∷ []) false) last rest
     → Read f (word ∷ words) (state file left names false) last rest
 read_flag f word words file left names last rest other known fresh r = record {
@@ -112,7 +112,7 @@ read_flag f word words file left names last rest other known fresh r = record {
 }
 
 read_file : (f : Form) (word : Word) (words : List Word) (left names : List Word) (last : Word) (rest : List Word)
-    → is_among word f.options ≡ false → is_among word f.flags ≡ false → is_positional word ≡ true
+    → is_among word (option_words f) ≡ false → is_among word (flag_words f) ≡ false → is_positional word ≡ true
     → Read f words (state (Some word) left names false) last rest
     → Read f (word ∷ words) (state None left names false) last rest
 read_file f word words left names last rest other another fit r = record {
@@ -142,7 +142,7 @@ module _ (f : Form) (word : Word) (words : List Word) (rest_is : Rest f words) (
       absurd cc
 
   option_case : (file : Option Word) → option_and_then ended (scan f (word ∷ words) (state file left names false)) ≡ Some (last, rest)
-      → is_among word f.options ≡ true → (b : Bool) → is_among word names ≡ b
+      → is_among word (option_words f) ≡ true → (b : Bool) → is_among word names ≡ b
       → Read f (word ∷ words) (state file left names false) last rest
   option_case file e known false fresh =
       read_option f word words file left names last rest known fresh
@@ -152,7 +152,7 @@ module _ (f : Form) (word : Word) (words : List Word) (rest_is : Rest f words) (
       absurd cc
 
   flag_case : (file : Option Word) → option_and_then ended (scan f (word ∷ words) (state file left names false)) ≡ Some (last, rest)
-      → is_among word f.options ≡ false → is_among word f.flags ≡ true → (b : Bool) → is_among word names ≡ b
+      → is_among word (option_words f) ≡ false → is_among word (flag_words f) ≡ true → (b : Bool) → is_among word names ≡ b
       → Read f (word ∷ words) (state file left names false) last rest
   flag_case file e other known false fresh =
       read_flag f word words file left names last rest other known fresh
@@ -162,7 +162,7 @@ module _ (f : Form) (word : Word) (words : List Word) (rest_is : Rest f words) (
       absurd cc
 
   file_case : (file : Option Word) → option_and_then ended (scan f (word ∷ words) (state file left names false)) ≡ Some (last, rest)
-      → is_among word f.options ≡ false → is_among word f.flags ≡ false → (b : Bool) → is_positional word ≡ b
+      → is_among word (option_words f) ≡ false → is_among word (flag_words f) ≡ false → (b : Bool) → is_positional word ≡ b
       → Read f (word ∷ words) (state file left names false) last rest
   file_case None e other another true fit =
       read_file f word words left names last rest other another fit
@@ -175,7 +175,7 @@ module _ (f : Form) (word : Word) (words : List Word) (rest_is : Rest f words) (
       absurd cc
 
   name_case : (file : Option Word) → option_and_then ended (scan f (word ∷ words) (state file left names false)) ≡ Some (last, rest)
-      → (o g : Bool) → is_among word f.options ≡ o → is_among word f.flags ≡ g
+      → (o g : Bool) → is_among word (option_words f) ≡ o → is_among word (flag_words f) ≡ g
       → Read f (word ∷ words) (state file left names false) last rest
   name_case file e true g known another = option_case file e known (is_among word names) refl
   name_case file e false true other known = flag_case file e other known (is_among word names) refl
@@ -197,4 +197,4 @@ sound f [] file left names false last rest e =
 sound f (word ∷ words) file left names true last rest e =
     value_case f word words (sound f words) left names last rest file e (is_number word) refl
 sound f (word ∷ words) file left names false last rest e =
-    name_case f word words (sound f words) left names last rest file e (is_among word f.options) (is_among word f.flags) refl refl
+    name_case f word words (sound f words) left names last rest file e (is_among word (option_words f)) (is_among word (flag_words f)) refl refl

@@ -1,8 +1,10 @@
 -- How the words are read one by one, for the functions inside.
 use Rattle.std.specs.Prelude.{◌≡◌, ⊤, Result, Ok, Err, Bool, true, false, List, [], ◌∷◌, ◌++◌, map, codes}
 use Rattle.std.specs.Prelude.{Option, Some, None, option_map, option_and_then, if◌then◌else◌}
+use Rattle.std.specs.Prelude.{find}
 use Rattle.std.specs.Str.{bytes_eq}
-use Rattle.hv_words.specs.Taken.{Form, Word, is_among, is_number, is_positional}
+use Rattle.clap.specs.Lexer.{strip_byte}
+use Rattle.hv_words.specs.Taken.{Form, Setting, Word, flag_words, is_among, is_number, is_positional, option_words}
 use Rattle.hv_words.specs.Taken.{check_form, plain_form, run_form, show_form}
 use Rattle.hv_words.specs.declared.line.Line.{Line}
 use Rattle.hv_words.specs.declared.line.Parted.{Parted}
@@ -10,6 +12,8 @@ use Rattle.hv_words.specs.declared.order.WordsEnd.{WordsEnd}
 use Rattle.hv_words.specs.declared.order.WordsEnd.TheVariants.{Usage, NoMemory}
 use Rattle.hv_words.specs.declared.subcommand.Kind.{Kind}
 use Rattle.hv_words.specs.declared.subcommand.Kind.TheVariants.{Valued, Flag, Positional, Unknown}
+use Rattle.hv_words.specs.declared.subcommand.Form.{Form as DeclaredForm}
+use Rattle.hv_words.specs.declared.subcommand.Setting.{Setting as DeclaredSetting}
 use Rattle.hv_words.specs.declared.subcommand.Subcommand.{Subcommand}
 use Rattle.hv_words.specs.declared.subcommand.Subcommand.TheVariants.{Check, Show, Plain, Run}
 
@@ -19,15 +23,31 @@ form Show = show_form
 form Plain = plain_form
 form Run = run_form
 
+-- all subcommands
+abbrev pub subcommands : List Subcommand
+subcommands = Check ∷ Show ∷ Plain ∷ Run ∷ []
+
 abbrev pub subcommand_named : Word → Option Subcommand
-subcommand_named word = if bytes_eq word (codes "check") then Some Check
-    else (if bytes_eq word (codes "show") then Some Show
-    else (if bytes_eq word (codes "plain") then Some Plain
-    else (if bytes_eq word (codes "run") then Some Run else None)))
+subcommand_named word = find (λ s. bytes_eq word (form s).name) subcommands
+
+-- an option and a row of the table as code has them
+abbrev pub setting_of : DeclaredSetting → Setting
+setting_of s = record { name = s.name.now; least = s.least; most = s.most; fallback = s.fallback }
+
+abbrev pub form_of : DeclaredForm → Form
+form_of f = record {
+  name = f.name.now;
+  options = map setting_of f.options.now;
+  flags = map (λ s. s.now) f.flags.now;
+}
+
+-- the name of an option or a flag in its word
+abbrev pub name_of : Word → Option Word
+name_of word = option_and_then (strip_byte 45) (strip_byte 45 word)
 
 abbrev pub kind_of : Form → Word → Kind
-kind_of f word = if is_among word f.options then Valued
-    else (if is_among word f.flags then Flag
+kind_of f word = if is_among word (option_words f) then Valued
+    else (if is_among word (flag_words f) then Flag
     else (if is_positional word then Positional else Unknown))
 
 -- what was read of a line: its positional, the words that are left, the names among these, and

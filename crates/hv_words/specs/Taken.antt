@@ -1,6 +1,6 @@
 -- Which words are taken, and what they ask for. A word is seen as its bytes.
 use Rattle.std.specs.Prelude.{◌≡◌, ◌==◌, ◌&&◌, ◌||◌, ◌+◌, ◌-◌, ◌*◌, ◌^◌, ◌≤◌, nat_le, not}
-use Rattle.std.specs.Prelude.{ℕ, Bool, true, false, List, [], ◌∷◌, ◌++◌, length, codes}
+use Rattle.std.specs.Prelude.{ℕ, Bool, true, false, List, [], ◌∷◌, ◌++◌, length, map, codes}
 use Rattle.std.specs.Prelude.{Option, Some, None, if◌then◌else◌}
 use Rattle.std.specs.List.{list_all, list_any}
 use Rattle.std.specs.Str.{bytes_eq}
@@ -27,7 +27,8 @@ number_of (digit ∷ rest) = (digit - 48) * 10 ^ length rest + number_of rest
 
 -- ---- the table
 
--- an option, the numbers that it takes, and the number that stands for it where it isn't given
+-- an option by its name, the numbers that it takes, and the number that stands for it where it isn't
+-- given
 pub record Setting : Type 0 where
   pub name : Word
   pub least : ℕ
@@ -35,15 +36,16 @@ pub record Setting : Type 0 where
   pub fallback : ℕ
 
 abbrev pub steps_option : Setting
-steps_option = record { name = codes "--steps"; least = 1; most = 1073741824; fallback = 10000000 }
+steps_option = record { name = codes "steps"; least = 1; most = 1073741824; fallback = 10000000 }
 
 abbrev pub trace_flag : Word
-trace_flag = codes "--trace"
+trace_flag = codes "trace"
 
--- a subcommand, with the names of its options and its flags
+-- a subcommand by its name, with its options and the names of its flags; each takes one positional,
+-- which names a file
 pub record Form : Type 0 where
   pub name : Word
-  pub options : List Word
+  pub options : List Setting
   pub flags : List Word
 
 abbrev pub check_form : Form
@@ -53,18 +55,10 @@ abbrev pub show_form : Form
 show_form = record { name = codes "show"; options = []; flags = [] }
 
 abbrev pub plain_form : Form
-plain_form = record {
-  name = codes "plain";
-  options = steps_option.name ∷ [];
-  flags = trace_flag ∷ [];
-}
+plain_form = record { name = codes "plain"; options = steps_option ∷ []; flags = trace_flag ∷ [] }
 
 abbrev pub run_form : Form
-run_form = record {
-  name = codes "run";
-  options = steps_option.name ∷ [];
-  flags = trace_flag ∷ [];
-}
+run_form = record { name = codes "run"; options = steps_option ∷ []; flags = trace_flag ∷ [] }
 
 -- what may be asked for
 pub data Asked : Type 0 where
@@ -73,11 +67,31 @@ pub data Asked : Type 0 where
   plain : Word → ℕ → Bool → Asked
   run : Word → ℕ → Bool → Asked
 
-abbrev pub form_of : Asked → Form
-form_of (check file) = check_form
-form_of (show file) = show_form
-form_of (plain file steps trace) = plain_form
-form_of (run file steps trace) = run_form
+-- what is asked for by a row of the table: a number for each of its options, and whether each of its
+-- flags is given
+pub record Entered : Type 0 where
+  pub form : Form
+  pub file : Word
+  pub numbers : List ℕ
+  pub marks : List Bool
+
+abbrev pub entered : Asked → Entered
+entered (check file) = record { form = check_form; file = file; numbers = []; marks = [] }
+entered (show file) = record { form = show_form; file = file; numbers = []; marks = [] }
+entered (plain file steps trace) =
+    record { form = plain_form; file = file; numbers = steps ∷ []; marks = trace ∷ [] }
+entered (run file steps trace) =
+    record { form = run_form; file = file; numbers = steps ∷ []; marks = trace ∷ [] }
+
+-- the word that gives an option or a flag: its name behind two hyphens
+abbrev pub dashed : Word → Word
+dashed name = 45 ∷ 45 ∷ name
+
+abbrev pub option_words : Form → List Word
+option_words form = map (λ o. dashed o.name) form.options
+
+abbrev pub flag_words : Form → List Word
+flag_words form = map dashed form.flags
 
 -- ---- the words behind the subcommand
 
@@ -101,11 +115,12 @@ is_positional (b ∷ rest) = not (b == 45) || length rest == 0
 
 -- the subcommand takes the item: a word that is an option or a flag is no positional
 abbrev pub FitsForm : Form → Item → Type 0
-FitsForm form (positional word) = (is_among word form.options ≡ false)
-    × (is_among word form.flags ≡ false) × (is_positional word ≡ true)
-FitsForm form (option name value) = (is_among name form.options ≡ true) × (is_number value ≡ true)
+FitsForm form (positional word) = (is_among word (option_words form) ≡ false)
+    × (is_among word (flag_words form) ≡ false) × (is_positional word ≡ true)
+FitsForm form (option name value) =
+    (is_among name (option_words form) ≡ true) × (is_number value ≡ true)
 FitsForm form (flag name) =
-    (is_among name form.options ≡ false) × (is_among name form.flags ≡ true)
+    (is_among name (option_words form) ≡ false) × (is_among name (flag_words form) ≡ true)
 
 abbrev pub AllFit : Form → List Item → Type 0
 AllFit form [] = Unit {0}
@@ -149,22 +164,25 @@ SetsTo setting (Some value) n =
     (n ≡ number_of value) × (setting.least ≤ n) × (n ≤ setting.most)
 
 abbrev pub Sets : Setting → List Item → ℕ → Type 0
-Sets setting items n = SetsTo setting (value_of setting.name items) n
+Sets setting items n = SetsTo setting (value_of (dashed setting.name) items) n
+
+-- each option has its number
+abbrev pub SetsEach : List Setting → List Item → List ℕ → Type 0
+SetsEach [] items [] = Unit {0}
+SetsEach (setting ∷ settings) items (n ∷ ns) = Sets setting items n × SetsEach settings items ns
+SetsEach [] items (n ∷ ns) = ⊥
+SetsEach (setting ∷ settings) items [] = ⊥
 
 -- the items ask for this
-abbrev pub Asks : List Item → Asked → Type 0
-Asks items (check file) = positionals items ≡ file ∷ []
-Asks items (show file) = positionals items ≡ file ∷ []
-Asks items (plain file steps trace) = (positionals items ≡ file ∷ [])
-    × Sets steps_option items steps × (trace ≡ has_flag trace_flag items)
-Asks items (run file steps trace) = (positionals items ≡ file ∷ [])
-    × Sets steps_option items steps × (trace ≡ has_flag trace_flag items)
+abbrev pub Asks : List Item → Entered → Type 0
+Asks items e = (positionals items ≡ e.file ∷ []) × SetsEach e.form.options items e.numbers
+    × (e.marks ≡ map (λ name. has_flag (dashed name) items) e.form.flags)
 
 -- the words are taken, and ask for this: behind the name of a subcommand stand items that it takes,
 -- each option and each flag once at most
 abbrev pub Taken : List Word → Asked → Type 0
 Taken words asked = (items : List Item)
-    × (words ≡ (form_of asked).name ∷ spelled items)
-    × AllFit (form_of asked) items
+    × (words ≡ (entered asked).form.name ∷ spelled items)
+    × AllFit (entered asked).form items
     × AreNew [] items
-    × Asks items asked
+    × Asks items (entered asked)

@@ -2,13 +2,13 @@
 //! that has no place there.
 ghost use Rattle.std.specs.Prelude.{◌≡◌, Some, map, string_bytes};
 ghost use Rattle.std.specs.List.{list_all};
-ghost use Rattle.hv_words.specs.Line.{form, line_of, nothing_seen, seen_of};
+ghost use Rattle.hv_words.specs.Line.{form, form_of, line_of, nothing_seen, seen_of};
 ghost use Rattle.hv_words.specs.Line.{ended, file_step, name_step, step, value_step};
 ghost use Rattle.hv_words.specs.Line.{Parts, Steps, kept, noted};
-ghost use Rattle.hv_words.specs.Taken.{is_among, is_digit, is_number};
+ghost use Rattle.hv_words.specs.Taken.{is_digit, is_number};
 
 use crate::order::WordsEnd;
-use crate::subcommand::{Kind, Subcommand};
+use crate::subcommand::{Form, Kind, Subcommand, is_among};
 use std::alloc::Global;
 
 /// The words of a line so far.
@@ -43,17 +43,6 @@ fn is_number(word: &str) -> bool
 {
     let digits = word.as_bytes();
     1 <= digits.len() && digits.len() <= MOST_DIGITS && are_digits(digits)
-}
-
-fn is_among(word: &str, words: &[&str]) -> bool
-    ensures { result ≡ is_among word.now (map (λ s. s.now) words.now) }
-{
-    for other in words {
-        if word == *other {
-            return true;
-        }
-    }
-    false
 }
 
 impl<'a> Line<'a> {
@@ -125,13 +114,13 @@ impl<'a> Line<'a> {
         Ok(())
     }
 
-    fn take(&mut self, subcommand: Subcommand, word: &'a str) -> Result<(), WordsEnd>
-        ensures { Steps (step (form subcommand) word.entry.now (seen_of self.old)) (seen_of self.new) result }
+    fn take(&mut self, form: &Form, word: &'a str) -> Result<(), WordsEnd>
+        ensures { Steps (step (form_of form.now) word.entry.now (seen_of self.old)) (seen_of self.new) result }
     {
         if self.waits {
             return self.take_value(word);
         }
-        match subcommand.kind_of(word) {
+        match form.kind_of(word) {
             Kind::Valued => self.take_name(word, true),
             Kind::Flag => self.take_name(word, false),
             Kind::Positional => self.take_file(word),
@@ -161,9 +150,10 @@ pub(crate) fn part(
 ) -> Result<Parted<'_>, WordsEnd>
     ensures { Parts (line_of (form subcommand) (map string_bytes words.now)) result }
 {
+    let form = subcommand.form();
     let mut line = Line::new(alloc);
     for word in words {
-        if let Err(end) = line.take(subcommand, word.as_str()) {
+        if let Err(end) = line.take(&form, word.as_str()) {
             return Err(end);
         }
     }

@@ -1,11 +1,13 @@
 //! Orders, and how words give one.
 ghost use Rattle.std.specs.Prelude.{◌∷◌, map, string_bytes};
-ghost use Rattle.hv_words.specs.Answers.{Answers};
+ghost use Rattle.hv_words.specs.Answers.{Answers, asked_of};
 ghost use Rattle.hv_words.specs.Line.{form};
+ghost use Rattle.hv_words.specs.Settings.{IsFilled};
+ghost use Rattle.hv_words.specs.Taken.{entered};
 
 use crate::line::part;
-use crate::settings::read_settings;
-use crate::subcommand::Subcommand;
+use crate::settings::{Settings, read_settings};
+use crate::subcommand::{STEPS, Subcommand, TRACE};
 use std::alloc::Global;
 use thiserror::Error;
 
@@ -60,27 +62,32 @@ fn order_of(alloc: Global, subcommand: Subcommand, words: &[String]) -> Result<O
         Ok(parted) => parted,
         Err(end) => return Err(end),
     };
-    let Ok(file) = String::from_str(alloc, parted.file) else {
-        return Err(WordsEnd::NoMemory);
+    let settings = match read_settings(alloc, subcommand, parted.left.as_slice()) {
+        Ok(settings) => settings,
+        Err(end) => return Err(end),
     };
+    match String::from_str(alloc, parted.file) {
+        Ok(file) => Ok(filled(subcommand, file, &settings)),
+        Err(_) => Err(WordsEnd::NoMemory),
+    }
+}
+
+/// The order of a subcommand.
+fn filled(subcommand: Subcommand, file: String, settings: &Settings) -> Order
+    ensures { IsFilled (form subcommand) (string_bytes file) settings.now (entered (asked_of result)) }
+{
     match subcommand {
-        Subcommand::Check => Ok(Order::Check { file }),
-        Subcommand::Show => Ok(Order::Show { file }),
-        Subcommand::Plain => match read_settings(alloc, parted.left.as_slice()) {
-            Ok(settings) => Ok(Order::Plain {
-                file,
-                steps: settings.steps,
-                trace: settings.trace,
-            }),
-            Err(end) => Err(end),
+        Subcommand::Check => Order::Check { file },
+        Subcommand::Show => Order::Show { file },
+        Subcommand::Plain => Order::Plain {
+            file,
+            steps: settings.number(&STEPS),
+            trace: settings.flag(TRACE),
         },
-        Subcommand::Run => match read_settings(alloc, parted.left.as_slice()) {
-            Ok(settings) => Ok(Order::Run {
-                file,
-                steps: settings.steps,
-                trace: settings.trace,
-            }),
-            Err(end) => Err(end),
+        Subcommand::Run => Order::Run {
+            file,
+            steps: settings.number(&STEPS),
+            trace: settings.flag(TRACE),
         },
     }
 }

@@ -1,44 +1,100 @@
-//! The options and flags of `plain` and `run`, read by clap.
-ghost use Rattle.std.specs.Prelude.{◌≡◌, IfOk, map};
-ghost use Rattle.clap.specs.Words.{app_of, kind_of};
-ghost use Rattle.hv_words.specs.Settings.{ReadsLeft};
-ghost use Rattle.hv_words.specs.Reading.{end_by, settings_app};
+//! The options and flags of a subcommand, read by clap.
+ghost use Rattle.std.specs.Prelude.{◌≡◌, IfOk, false, map};
+ghost use Rattle.clap.specs.Words.{app_of, kind_of, rule_of};
+ghost use Rattle.hv_words.specs.Line.{form, form_of, setting_of};
+ghost use Rattle.hv_words.specs.Settings.{IsMarkOf, IsNumberOf, ReadsLeft, text_at};
+ghost use Rattle.hv_words.specs.Reading.{app_by, bare_app, end_by, flag_rule, option_rule, with_rules};
 
 use crate::order::WordsEnd;
+use crate::subcommand::{Form, Setting, Subcommand};
 use clap::builder::ValueParser;
 use clap::error::ErrorKind;
-use clap::{Arg, ArgAction, Command, Error};
+use clap::{Arg, ArgAction, ArgMatches, Command, Error};
 use std::alloc::{AllocError, Global};
 
 /// What the options and flags say.
-#[derive(Clone, Copy, Debug)]
-pub(crate) struct Settings {
-    pub(crate) steps: u64,
-    pub(crate) trace: bool,
+#[derive(Drop)]
+pub(crate) struct Settings<'a> {
+    matches: ArgMatches<'a>,
 }
 
-const LEAST_STEPS: u64 = 1;
+impl<'a> Settings<'a> {
+    /// The number of the option.
+    pub(crate) fn number(&self, setting: &Setting) -> u64
+        ensures { IsNumberOf (setting_of setting.now) (text_at self.now setting.now.name.now) result }
+    {
+        self.matches
+            .get_one::<u64>(setting.name)
+            .unwrap_or(setting.fallback)
+    }
 
-const MOST_STEPS: u64 = 1_073_741_824;
+    /// Whether the flag is given.
+    pub(crate) fn flag(&self, name: &str) -> bool
+        ensures { IsMarkOf (text_at self.now name.now) result }
+    {
+        self.matches.get_flag(name)
+    }
+}
 
-const DEFAULT_STEPS: u64 = 10_000_000;
-
-/// A command of options and flags alone.
-fn command<'a>(alloc: Global) -> Result<Command<'a>, AllocError>
-    ensures { IfOk result (λ c. app_of c ≡ settings_app) }
+fn option_arg<'a>(alloc: Global, setting: &Setting) -> Arg<'a>
+    ensures rule { rule_of result ≡ option_rule (setting_of setting.now) }
+    ensures local { result.global ≡ false }
 {
-    let steps = Arg::new(alloc, "steps")
-        .long("steps")
+    Arg::new(alloc, setting.name)
+        .long(setting.name)
         .action(ArgAction::Set)
-        .value_parser(ValueParser::Unsigned(LEAST_STEPS, MOST_STEPS));
-    let trace = Arg::new(alloc, "trace")
-        .long("trace")
-        .action(ArgAction::SetTrue);
+        .value_parser(ValueParser::Unsigned(setting.least, setting.most))
+}
+
+fn flag_arg<'a>(alloc: Global, name: &'a str) -> Arg<'a>
+    ensures rule { rule_of result ≡ flag_rule name.entry.now }
+    ensures local { result.global ≡ false }
+{
+    Arg::new(alloc, name).long(name).action(ArgAction::SetTrue)
+}
+
+fn bare<'a>(alloc: Global) -> Command<'a>
+    ensures { app_of result ≡ bare_app }
+{
     Command::new(alloc, "hv")
         .no_binary_name(true)
         .disable_help_flag(true)
-        .arg(steps)?
-        .arg(trace)
+}
+
+fn with_options<'a>(
+    alloc: Global,
+    command: Command<'a>,
+    options: &[Setting],
+) -> Result<Command<'a>, AllocError>
+    ensures { IfOk result (λ c. app_of c ≡ with_rules (app_of command.entry) (map option_rule (map setting_of options.now))) }
+{
+    let mut command = command;
+    for setting in options {
+        command = command.arg(option_arg(alloc, setting))?;
+    }
+    Ok(command)
+}
+
+fn with_flags<'a>(
+    alloc: Global,
+    command: Command<'a>,
+    flags: &[&'a str],
+) -> Result<Command<'a>, AllocError>
+    ensures { IfOk result (λ c. app_of c ≡ with_rules (app_of command.entry) (map flag_rule (map (λ s. s.now) flags.now))) }
+{
+    let mut command = command;
+    for name in flags {
+        command = command.arg(flag_arg(alloc, *name))?;
+    }
+    Ok(command)
+}
+
+/// A command of the options and flags alone.
+fn command<'a>(alloc: Global, form: Form) -> Result<Command<'a>, AllocError>
+    ensures { IfOk result (λ c. app_of c ≡ app_by (form_of form)) }
+{
+    let command = with_options(alloc, bare(alloc), form.options)?;
+    with_flags(alloc, command, form.flags)
 }
 
 fn end_of(error: Error) -> WordsEnd
@@ -51,18 +107,19 @@ fn end_of(error: Error) -> WordsEnd
 }
 
 /// Reads the options, each with its value behind it, and the flags.
-pub(crate) fn read_settings<'a>(alloc: Global, left: &'a [&'a str]) -> Result<Settings, WordsEnd>
-    ensures { ReadsLeft (map (λ s. s.now) left.now) result }
+pub(crate) fn read_settings<'a>(
+    alloc: Global,
+    subcommand: Subcommand,
+    left: &'a [&'a str],
+) -> Result<Settings<'a>, WordsEnd>
+    ensures { ReadsLeft (form subcommand) (map (λ s. s.now) left.now) result }
 {
-    let command = match command(alloc) {
+    let command = match command(alloc, subcommand.form()) {
         Ok(command) => command,
         Err(_) => return Err(WordsEnd::NoMemory),
     };
     match command.try_get_matches_from(left) {
-        Ok(matches) => Ok(Settings {
-            steps: matches.get_one::<u64>("steps").unwrap_or(DEFAULT_STEPS),
-            trace: matches.get_flag("trace"),
-        }),
+        Ok(matches) => Ok(Settings { matches }),
         Err(error) => Err(end_of(error)),
     }
 }

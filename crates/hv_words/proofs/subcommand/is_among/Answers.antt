@@ -1,6 +1,6 @@
 use Rattle.std.proofs.Common.{◌∙◌, sym}
 use Rattle.hv_words.proofs.LineLemmas.{among_here, among_on}
-use Rattle.hv_words.proofs.line.is_among.Goals as goal
+use Rattle.hv_words.proofs.subcommand.is_among.Goals as goal
 
 pub returns-then-eq : goal.returns-then-eq
 returns-then-eq c =

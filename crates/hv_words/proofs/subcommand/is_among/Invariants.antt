@@ -1,6 +1,6 @@
 use Rattle.std.proofs.Common.{◌≡◌, map, drop}
 use Rattle.hv_words.specs.Taken.{is_among}
-use Rattle.hv_words.proofs.line.is_among.Given as goal
+use Rattle.hv_words.proofs.subcommand.is_among.Given as goal
 
 abbrev pub invariant-loop-other : goal.invariant-loop-other
 invariant-loop-other l =
