@@ -1,5 +1,5 @@
 -- From a line and its settings to the order.
-use Rattle.std.proofs.Common.{◌≡◌, ◌∙◌, ◌≤◌, ℕ, Bool, true, false, cond, List, [], ◌∷◌, ◌++◌, map, length, drop, sym, subst, ap, refl, arith}
+use Rattle.std.proofs.Common.{◌≡◌, ◌∙◌, ◌≤◌, Bool, true, false, List, [], ◌∷◌, ◌++◌, map, length, drop, sym, subst, ap, refl, arith}
 use Rattle.std.specs.Prelude.{Option, Some, None, Result, Ok, Err, String, find, string_bytes}
 use Rattle.std.specs.List.{slice_index_or}
 use Rattle.std.specs.Str.{bytes_eq}

@@ -1,19 +1,19 @@
 -- The fault that clap has with the words that are left of items is that of their values.
-use Rattle.std.proofs.Common.{◌≡◌, ◌∙◌, ◌&&◌, ◌||◌, ◌≤◌, ◌^◌, ℕ, Bool, true, false, cond, not, List, [], ◌∷◌, ◌++◌, map, drop, codes, sym, subst, ap, ap₂, refl, true≢false}
-use Rattle.std.specs.Prelude.{Option, Some, None}
+use Rattle.std.proofs.Common.{◌≡◌, ◌∙◌, ◌&&◌, Bool, true, false, not, List, [], ◌∷◌, ◌++◌, map, drop, codes, sym, subst, ap, ap₂, refl}
+use Rattle.std.specs.Prelude.{Some, None}
 use Rattle.std.specs.List.{list_any}
 use Rattle.clap.specs.Lexer.{long_of}
-use Rattle.clap.specs.Walk.{Held, Row, Rule, Text, Walk, arg_by_id, arg_by_long, finished, has_row, nothing_held, settled, takes_values, walked, with_default}
+use Rattle.clap.specs.Walk.{Held, Row, Rule, Text, Walk, arg_by_long, finished, has_row, nothing_held, settled, takes_values, with_default}
 use Rattle.clap.specs.Simple.{Shape, entered}
 use Rattle.clap.specs.Takes.{is_given}
-use Rattle.clap.specs.Faults.{built_fault, check_fault, defaults_fault, entered_fault, fault_of, react_fault, settle_fault, turn_fault, use_fault, walk_fault}
+use Rattle.clap.specs.Faults.{built_fault, check_fault, defaults_fault, entered_fault, fault_of, react_fault, settle_fault, turn_fault, walk_fault}
 use Rattle.clap.specs.Kinds.{Kinds, or_else}
 use Rattle.std.specs.Str.{bytes_eq}
 use Rattle.hv_words.specs.Taken.{AllFit, AreNew, Form, Item, Setting, Word, dashed, flag, is_among, is_number, positional}
 use Rattle.hv_words.specs.Taken as taken
 use Rattle.hv_words.specs.Settings.{left_of}
 use Rattle.hv_words.specs.Reading.{app_by}
-use Rattle.hv_words.proofs.Rules.{fault_is, flag_full, full_of, full_rules, is_name, long_is, option_by_id, option_by_long, option_full, same_bytes, setting_by, shape_by, whole_app}
+use Rattle.hv_words.proofs.Rules.{fault_is, flag_full, full_of, full_rules, is_name, long_is, option_by_id, option_by_long, option_full, setting_by, shape_by, whole_app}
 use Rattle.hv_words.proofs.Walks.{IsPlain, Known, after, at, flag_found, is_named, items_fault, known_more, long_flag, named_word, option_found, option_step, flag_step, or_else-assoc, or_else-nil, over, plain_number, row_added, row_of, settled_option, value_fault, waits, walk_is, with_flag, with_option}
 
 -- ---- one word

@@ -1,20 +1,18 @@
 -- What is found for a name after the words that are left of items.
-use Rattle.std.proofs.Common.{◌≡◌, ◌∙◌, ◌&&◌, ◌||◌, ◌≤◌, ◌^◌, ℕ, Bool, true, false, cond, not, List, [], ◌∷◌, ◌++◌, map, drop, codes, sym, subst, ap, ap₂, refl, true≢false}
-use Rattle.std.specs.Prelude.{◌==◌, Option, Some, None, find, nat_lt, option_and_then}
-use Rattle.std.specs.List.{fold, list_all, list_any}
-use Rattle.std.specs.Option.{is_some, option_map_or}
+use Rattle.std.proofs.Common.{◌≡◌, ◌∙◌, ◌||◌, Bool, true, false, cond, List, [], ◌∷◌, ◌++◌, map, drop, codes, sym, subst, ap, refl, true≢false}
+use Rattle.std.specs.Prelude.{Option, Some, None, find, option_and_then}
+use Rattle.std.specs.List.{fold}
+use Rattle.std.specs.Option.{is_some}
 use Rattle.std.specs.Str.{bytes_eq}
-use Rattle.clap.specs.Walk.{Row, Rule, Text, has_row, more_values, nothing_held, one_of, row_text, rows_after, settled, with_default}
+use Rattle.clap.specs.Walk.{Row, Text, has_row, more_values, nothing_held, one_of, row_text, settled, with_default}
 use Rattle.clap.specs.Simple.{matches_of}
 use Rattle.clap.specs.declared.builder.value_parser.Reading.TheVariants.{AsWritten}
 use Rattle.clap.specs.declared.parser.matches.ValueSource.TheVariants.{DefaultValue}
-use Rattle.clap.proofs.SimpleLemmas.{is_false}
-use Rattle.clap.proofs.WalkLemmas.{both}
 use Rattle.hv_words.specs.Taken.{AllFit, AreNew, Form, Item, Setting, Word, dashed, flag, flag_words, has_flag, is_among, option_words, positional, value_of}
 use Rattle.hv_words.specs.Taken as taken
 use Rattle.hv_words.specs.Settings.{flag_text, left_of}
 use Rattle.hv_words.specs.Reading.{app_by}
-use Rattle.hv_words.proofs.Rules.{flag_full, full_of, full_rules, matches_are, option_full, same_bytes, same_word, setting_by, turned}
+use Rattle.hv_words.proofs.Rules.{flag_full, full_of, full_rules, matches_are, option_full, same_word, turned}
 use Rattle.hv_words.proofs.Walks.{after, at, flag_found, is_named, not_there, option_found, over, row_of, rows_are, walk_is}
 use Rattle.hv_words.proofs.Walks as walks
 

@@ -1,7 +1,7 @@
 -- The items of a line are the only ones, and so is what they ask for.
 use Rattle.std.proofs.Common.{◌≡◌, ◌∙◌, ℕ, Bool, List, [], ◌∷◌, map, sym, subst, ap, refl}
 use Rattle.std.specs.Prelude.{Option, Some, None}
-use Rattle.hv_words.specs.Taken.{AllFit, Asked, Asks, Entered, Form, Item, Sets, SetsEach, SetsTo, Setting, Taken, Word, check, dashed, entered, flag, has_flag, option, plain, positional, run, show, spelled, value_of}
+use Rattle.hv_words.specs.Taken.{AllFit, Asked, Asks, Entered, Form, Item, SetsEach, SetsTo, Setting, Taken, Word, check, dashed, entered, flag, has_flag, option, plain, positional, run, show, spelled, value_of}
 use Rattle.hv_words.specs.Line.{form, subcommand_named}
 use Rattle.hv_words.specs.declared.subcommand.Subcommand.{Subcommand}
 use Rattle.hv_words.specs.declared.subcommand.Subcommand.TheVariants.{Check, Show, Plain, Run}

@@ -1,15 +1,13 @@
 -- Values in the ranges of their options are those in which clap finds no fault.
-use Rattle.std.proofs.Common.{◌≡◌, ◌∙◌, ◌&&◌, ◌||◌, ◌≤◌, ◌<◌, ◌^◌, ℕ, Bool, true, false, cond, not, List, [], ◌∷◌, ◌++◌, map, drop, sym, subst, ap, ap₂, refl, true≢false, arith, ltb-true}
-use Rattle.std.specs.Prelude.{◌==◌, Option, Some, None, find, nat_lt}
-use Rattle.std.specs.List.{list_all}
-use Rattle.std.specs.Option.{option_map_or}
+use Rattle.std.proofs.Common.{◌≡◌, ◌∙◌, ◌||◌, ◌≤◌, ◌^◌, ℕ, Bool, true, false, cond, List, [], ◌∷◌, ◌++◌, drop, sym, subst, ap, ap₂, refl, true≢false, ltb-true}
+use Rattle.std.specs.Prelude.{Option, Some, None, nat_lt}
 use Rattle.std.specs.Str.{bytes_eq}
 use Rattle.clap.specs.Kinds.{Kinds, or_else}
 use Rattle.clap.specs.ValueTests.{is_unsigned_in}
-use Rattle.hv_words.specs.Taken.{AllFit, AreNew, Form, Item, Sets, SetsEach, SetsTo, Setting, Word, dashed, flag, is_among, is_number, number_of, option, option_words, positional, value_of}
+use Rattle.hv_words.specs.Taken.{AllFit, AreNew, Form, Item, Sets, SetsEach, SetsTo, Setting, Word, dashed, flag, is_among, is_number, option, positional, value_of}
 use Rattle.hv_words.specs.Settings.{IsInRange}
 use Rattle.hv_words.proofs.NumberLemmas.{from_range, in_range}
-use Rattle.hv_words.proofs.Rules.{OptionAt, same_bytes, same_word, setting_by}
+use Rattle.hv_words.proofs.Rules.{same_bytes, same_word, setting_by}
 use Rattle.hv_words.proofs.Walks.{is_named, items_fault, option_found, value_fault}
 
 -- each option's value, if it has one, is in its range

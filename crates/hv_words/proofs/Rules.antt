@@ -1,7 +1,7 @@
 -- The arguments of a row of the table as clap finds them.
-use Rattle.std.proofs.Common.{◌≡◌, ◌∙◌, ◌&&◌, ◌||◌, ◌^◌, ℕ, Bool, true, false, cond, not, List, [], ◌∷◌, ◌++◌, map, length, sym, subst, ap, refl, true≢false, append_assoc, append-nil}
+use Rattle.std.proofs.Common.{◌≡◌, ◌∙◌, ◌&&◌, ◌||◌, ◌^◌, Bool, true, false, not, List, [], ◌∷◌, ◌++◌, map, length, sym, ap, refl, true≢false, append_assoc, append-nil}
 use Rattle.std.specs.Prelude.{◌==◌, Option, Some, None, find, nat_lt}
-use Rattle.std.specs.List.{before_first, list_all, list_any}
+use Rattle.std.specs.List.{before_first, list_all}
 use Rattle.std.specs.Str.{bytes_eq}
 use Rattle.std.specs.Cmp.Lexicographic.{nat_list_eq_equiv}
 use Rattle.std.proofs.lemmas.Slice.Eq.{bytes_eq-Decides}

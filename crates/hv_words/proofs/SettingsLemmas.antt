@@ -1,26 +1,25 @@
 -- From what clap found to the settings.
 use Rattle.std.proofs.Common.{◌≡◌, ◌∙◌, ◌&&◌, ◌≤◌, ◌^◌, ◌<◌, ℕ, Bool, true, false, not, List, [], ◌∷◌, map, sym, subst, ap, refl, arith, inl, inr, true≢false, ltb-true}
-use Rattle.std.specs.Prelude.{◌==◌, Option, Some, None, find, unwrap_or, Result, Ok, Err}
+use Rattle.std.specs.Prelude.{◌==◌, Option, Some, None, unwrap_or, Result, Ok, Err}
 use Rattle.std.specs.List.{list_all}
 use Rattle.std.specs.Option.{option_map_or}
 use Rattle.std.specs.Str.{bytes_eq}
 use Rattle.std.specs.Str.Parse.{ParsesUnsigned}
 use Rattle.std.proofs.lemmas.Bool.{eqb-true}
-use Rattle.clap.specs.Walk.{Text, one_of, rows_of}
+use Rattle.clap.specs.Walk.{one_of}
 use Rattle.clap.specs.Simple.{App, HasMatchesOf, is_simple, matches_of}
-use Rattle.clap.specs.Matches.{ReadsOne, found_of, one_text}
+use Rattle.clap.specs.Matches.{ReadsOne, found_of}
 use Rattle.clap.specs.Faults.{fault_of, is_simple_and_free}
 use Rattle.clap.specs.Kinds.{HasKind, Kinds}
 use Rattle.clap.specs.Values.{kind_of}
 use Rattle.clap.specs.declared.error.Error.{Error}
 use Rattle.clap.specs.declared.error.kind.ErrorKind.TheVariants.{OutOfMemory}
-use Rattle.clap.specs.declared.parser.matches.ArgMatches.{ArgMatches}
 use Rattle.clap.proofs.OnLiterals.{clap_on_literals}
 use Rattle.clap.proofs.SimpleLemmas.{is_false}
 use Rattle.clap.proofs.WalkLemmas.{both, one_text-rows}
-use Rattle.hv_words.specs.Taken.{AllFit, AreNew, Form, Item, Setting, Sets, SetsEach, SetsTo, Word, dashed, has_flag, is_among, is_number, number_of, option_words, value_of}
+use Rattle.hv_words.specs.Taken.{AllFit, AreNew, Form, Item, Setting, SetsEach, SetsTo, Word, dashed, has_flag, is_among, is_number, number_of, option_words, value_of}
 use Rattle.hv_words.specs.Line.{form}
-use Rattle.hv_words.specs.Settings.{AreMarksOf, AreNumbersOf, HasFlags, HasOptions, HasSettings, IsInRange, IsNumberOf, flag_text, left_of, text_at}
+use Rattle.hv_words.specs.Settings.{AreMarksOf, AreNumbersOf, HasFlags, HasOptions, HasSettings, IsInRange, IsNumberOf, left_of, text_at}
 use Rattle.hv_words.specs.Reading.{app_by, end_by}
 use Rattle.hv_words.specs.declared.order.WordsEnd.{WordsEnd}
 use Rattle.hv_words.specs.declared.order.WordsEnd.TheVariants.{Usage, NoMemory}

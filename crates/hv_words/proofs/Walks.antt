@@ -1,25 +1,21 @@
 -- What clap's walk holds after the words that are left of items, and which fault it has.
-use Rattle.std.proofs.Common.{◌≡◌, ◌∙◌, ◌&&◌, ◌||◌, ◌≤◌, ℕ, Bool, true, false, cond, not, List, [], ◌∷◌, ◌++◌, map, length, drop, codes, sym, subst, ap, ap₂, refl, true≢false, append_assoc, append-nil}
-use Rattle.std.specs.Prelude.{◌==◌, Option, Some, None, find, nat_lt}
-use Rattle.std.specs.List.{fold, list_all, list_any}
+use Rattle.std.proofs.Common.{◌≡◌, ◌∙◌, ◌&&◌, ◌||◌, ℕ, Bool, true, false, List, [], ◌∷◌, ◌++◌, drop, codes, sym, subst, ap, refl, true≢false, append_assoc, append-nil}
+use Rattle.std.specs.Prelude.{◌==◌, Option, Some, None}
+use Rattle.std.specs.List.{fold, list_all}
 use Rattle.std.specs.Option.{option_map_or}
 use Rattle.std.specs.Str.{bytes_eq}
 use Rattle.clap.specs.Lexer.{long_of, short_of}
 use Rattle.clap.specs.Walk.{Held, Row, Rule, Text, Walk, arg_by_id, arg_by_long, at_row, has_row, more_values, reacted, settled, takes_values, walk_from, walked, with_values, without, option}
-use Rattle.clap.specs.Simple.{Shape}
 use Rattle.clap.proofs.WalkLemmas.{both}
-use Rattle.clap.specs.Faults.{react_fault, settle_fault, turn_fault, use_fault, walk_fault}
 use Rattle.clap.specs.Kinds.{Kinds, or_else, value_kinds}
-use Rattle.clap.specs.declared.builder.value_parser.Reading.{Reading}
 use Rattle.clap.specs.declared.builder.value_parser.Reading.TheVariants.{AsWritten}
 use Rattle.clap.specs.declared.builder.value_parser.ValueParser.TheVariants.{Unsigned}
-use Rattle.clap.specs.declared.parser.matches.ValueSource.{ValueSource}
 use Rattle.clap.specs.declared.parser.matches.ValueSource.TheVariants.{CommandLine}
 use Rattle.hv_words.specs.Taken.{AllFit, AreNew, Form, Item, Setting, Word, dashed, flag, is_among, is_number, positional}
 use Rattle.hv_words.specs.Taken as taken
 use Rattle.hv_words.specs.Settings.{left_of}
 use Rattle.hv_words.proofs.NumberLemmas.{by_digit, first_digit}
-use Rattle.hv_words.proofs.Rules.{FlagAt, Names, OptionAt, flag_at, flag_by_long, flag_full, full_rules, is_name, long_is, no_option, option_at, option_by_id, option_by_long, option_full, same_bytes, setting_by, shape_by, turned}
+use Rattle.hv_words.proofs.Rules.{FlagAt, Names, OptionAt, flag_at, flag_by_long, flag_full, full_rules, is_name, long_is, no_option, option_at, option_by_id, option_by_long, option_full, same_bytes, setting_by, turned}
 
 -- between two items
 abbrev pub at : Held → Walk

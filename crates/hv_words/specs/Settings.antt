@@ -1,5 +1,5 @@
 -- What clap makes of the words that are left.
-use Rattle.std.specs.Prelude.{◌≡◌, ◌<◌, ◌≤◌, ◌^◌, ℕ, Bool, true, List, [], ◌∷◌, map, codes}
+use Rattle.std.specs.Prelude.{◌≡◌, ◌<◌, ◌≤◌, ◌^◌, ℕ, Bool, true, List, [], ◌∷◌, codes}
 use Rattle.std.specs.Prelude.{Option, Some, None, Result, Ok, Err, if◌then◌else◌}
 use Rattle.clap.specs.Words.{found_of, one_text}
 use Rattle.hv_words.specs.Taken.{AllFit, AreNew, Entered, Form, Item, Setting, SetsEach, Word, dashed, flag}

@@ -1,4 +1,4 @@
-use Rattle.std.proofs.Common.{◌≡◌, ◌∙◌, ap, map}
+use Rattle.std.proofs.Common.{◌∙◌, ap, map}
 use Rattle.std.proofs.lemmas.Result.{IfOk-weaker}
 use Rattle.hv_words.specs.Line.{setting_of}
 use Rattle.hv_words.specs.Reading.{app_by, bare_app, flag_rule, option_rule, with_rules}

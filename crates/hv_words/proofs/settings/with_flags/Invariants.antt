@@ -1,6 +1,5 @@
 use Rattle.std.proofs.Common.{◌≡◌, map, drop}
 use Rattle.clap.specs.Words.{app_of}
-use Rattle.hv_words.specs.Line.{setting_of}
 use Rattle.hv_words.specs.Reading.{flag_rule, with_rules}
 use Rattle.hv_words.proofs.settings.with_flags.Given as goal
 

@@ -1,12 +1,6 @@
 use Rattle.std.proofs.Common.{arith}
 use Rattle.std.proofs.lemmas.Str.Pattern.{strip_prefix_char}
 use Rattle.clap.proofs.LexerLemmas.{strip_byte-from}
-use Rattle.hv_words.proofs.Rules.{option_at}
-use Rattle.hv_words.proofs.Walks.{rows_are}
-use Rattle.hv_words.proofs.Faulted.{fault_of_items}
-use Rattle.hv_words.proofs.Found.{flag_read}
-use Rattle.hv_words.proofs.Ranges.{ranges_of}
-use Rattle.hv_words.proofs.AnswerLemmas.{unnamed}
 use Rattle.hv_words.proofs.subcommand.without_hyphen.Goals as goal
 
 pub returns : goal.returns
