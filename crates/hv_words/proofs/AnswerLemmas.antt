@@ -51,7 +51,7 @@ IsTaken words a = Taken words a × ((other : Asked) → Taken words other → ot
 is_taken : (words : List Word) (a : Asked) → Taken words a → IsTaken words a
 is_taken words a t = (t, λ other o. taken_once words other a o t)
 
-none_taken : (s : Subcommand) (words : List Word) → line_of (form s) words ≡ None → (a : Asked) → Taken ((form s).name ∷ words) a → ⊥
+pub none_taken : (s : Subcommand) (words : List Word) → line_of (form s) words ≡ None → (a : Asked) → Taken ((form s).name ∷ words) a → ⊥
 none_taken s words none a t =
     let bad : ◌≡◌ {A = Option (Word × List Word)} (Some ((entered a).file, left_of (lined s words a t).items)) None = sym (lined s words a t).line ∙ none in
     absurd cc

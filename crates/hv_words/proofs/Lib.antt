@@ -10,3 +10,4 @@ pub mod Ranges
 pub mod SettingsLemmas
 pub mod OrderLemmas
 pub mod AnswerLemmas
+pub mod Examples
