@@ -11,3 +11,5 @@ pub mod Evaluate
 -- the kind of state that copies, and programs
 pub mod Copying
 pub mod Meaning
+-- comparing kinds of state
+pub mod Alike
