@@ -2,6 +2,8 @@ pub mod Both
 pub mod Constructs
 pub mod Generic
 pub mod Copies
+pub mod GoingOn
+pub mod Richer
 -- examples
 mod Programs
 mod Examples

@@ -13,3 +13,4 @@ pub mod Copying
 pub mod Meaning
 -- comparing kinds of state
 pub mod Alike
+pub mod Laws

@@ -2,5 +2,7 @@
 #![tactic(auto)]
 
 mod end;
+mod law;
 
 pub use end::TrapKind;
+pub use law::{bigger_budgets_change_nothing, budgets_are_kept, tasks_only_go_on};
