@@ -1,11 +1,11 @@
 -- Copying compared with itself, where the tasks may differ and the locals don't.
-use Rattle.std.proofs.Common.{◌≡◌, ◌≤◌, ◌⊎◌, ℕ, List, [], Option, Some, None, refl, subst, sym}
+use Rattle.std.proofs.Common.{◌≡◌, ◌≤◌, ◌⊎◌, ℕ, List, [], Option, Some, None, refl, subst, ap}
 use Rattle.hv_tree.specs.declared.place.Place.{Place}
 use Rattle.hv_value.specs.ValueTree.{ValueTree}
 use Rattle.hv_value.specs.Walk.{Reached, Reaches, Outside, Lost, walk}
 use Rattle.hv_copying.specs.Run.{Task, Tasks, Res, Is, Stuck, after, Now, Run, Flow, pure, stuck, trap, pay, say}
 use Rattle.hv_copying.specs.Ops.{Target, Spot, Mode, Reads, Writes, Sets, Passed}
-use Rattle.hv_copying.specs.Copying.{Locals, tree_at, with_tree, with_own, arrived, at_spot, if_there, written, write_back, closed, callee_trees, returned, copying}
+use Rattle.hv_copying.specs.Copying.{Locals, tree_at, with_tree, with_own, arrived, at_spot, if_there, written, without, write_back, closed, callee_trees, returned, copying}
 use Rattle.hv_copying.specs.Alike.{Both, Relation, Ends, Alike, Related}
 use Rattle.hv_copying.proofs.Both.{both_after}
 
@@ -62,12 +62,12 @@ module _ (L : Type 0) (Q K : Task → Task → Type 0) (facts : Facts L Q K) whe
   write_back_both : (r : ℕ) (p : Spot) (t a b : Now Locals) (x y : Flow) → a.own ≡ b.own → Q a.task b.task → K t.task b.task → x ≡ y →
       Both L (λ a b. Q a b × K t.task b) (Ends (same_locals L Q K) tt tt t) (after (write_back r p a) (λ u. Is (u, x))) (after (write_back r p b) (λ u. Is (u, y)))
   write_back_both r p t a b x y h q k e =
-      subst (λ own. Both L (λ a b. Q a b × K t.task b) (Ends (same_locals L Q K) tt tt t) (after (write_back r p a) (λ u. Is (u, x))) (after (if_there (at_spot own p) (λ old. Is (with_own b (written own p (tree_at own r))))) (λ u. Is (u, y)))) h
-      (back_both (at_spot a.own p) (written a.own p (tree_at a.own r)) t a b x y q k e)
+      subst (λ own. Both L (λ a b. Q a b × K t.task b) (Ends (same_locals L Q K) tt tt t) (after (write_back r p a) (λ u. Is (u, x))) (after (if_there (at_spot own p) (λ old. Is (with_own b (without (written own p (tree_at own r)) r)))) (λ u. Is (u, y)))) h
+      (back_both (at_spot a.own p) (without (written a.own p (tree_at a.own r)) r) t a b x y q k e)
 
   closed_both : (mode : Mode) (r : ℕ) (p : Spot) (t a b : Now Locals) (x y : Flow) → a.own ≡ b.own → Q a.task b.task → K t.task b.task → x ≡ y →
       Both L (λ a b. Q a b × K t.task b) (Ends (same_locals L Q K) tt tt t) (after (closed mode r p a) (λ u. Is (u, x))) (after (closed mode r p b) (λ u. Is (u, y)))
-  closed_both Reads r p t a b x y h q k e = ((h, q), k, e)
+  closed_both Reads r p t a b x y h q k e = ((ap (λ own. without own r) h, q), k, e)
   closed_both Writes r p t a b x y h q k e = write_back_both r p t a b x y h q k e
   closed_both Sets r p t a b x y h q k e = write_back_both r p t a b x y h q k e
 

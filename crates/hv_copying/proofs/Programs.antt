@@ -1,12 +1,12 @@
 -- Parts of the programs that the examples are about.
 use Rattle.std.proofs.Common.{ℕ, ℤ, pos, List, [], ◌∷◌, ◌++◌, Option, Some, None, codes}
-use Rattle.std.specs.Fmt.{signed_decimal}
 use Rattle.hv_tree.specs.declared.place.Place.{Place}
 use Rattle.hv_tree.specs.declared.types.Name.{Name}
 use Rattle.hv_tree.specs.declared.types.Conv.{Conv}
 use Rattle.hv_tree.specs.declared.ast.Operator.{Operator}
 use Rattle.hv_tree.specs.Core.{Core, CoreDecl, FunOf, CoreFun, CoreParam, CoreTy, IntTy, BoolTy, ArrayTy, CoreExpr, Number, Path, Calls, Chain, CoreLinks, NoLinks, LinkOf, CoreExprs, NoExprs, ExprOf, CoreSteps, NoSteps, IndexStep, CoreCall, CallOf, CoreArgs, NoArgs, CoreBlock, BlockOf, CoreStmts, NoStmts, StmtOf, CoreStmt}
-use Rattle.hv_value.specs.ValueTree.{Fields, Nil}
+use Rattle.hv_value.specs.ValueTree.{ValueTree, Fields, Nil}
+use Rattle.hv_value.specs.Texts.{text}
 use Rattle.hv_copying.specs.Node.{End, Done, Node, NodeOf, NoNodes}
 
 abbrev pub at : ℕ → Place
@@ -79,9 +79,31 @@ root steps end output = NodeOf (0 ∷ []) steps end output NoNodes
 abbrev pub done : End
 done = Done (Fields Nil)
 
--- the output, and then a number's line
-abbrev pub and_line : List ℕ → ℤ → List ℕ
-and_line output z = output ++ (signed_decimal z ++ 10 ∷ [])
+-- the output, and then a value's line
+abbrev pub and_line : List ℕ → ValueTree → List ℕ
+and_line output v = output ++ (text v ++ 10 ∷ [])
 
-abbrev pub line : ℤ → List ℕ
-line z = and_line [] z
+abbrev pub line : ValueTree → List ℕ
+line v = and_line [] v
+
+-- the locals of an example, by the places where their names stand
+abbrev pub x : Name
+x = name (codes "x")
+
+abbrev pub x_at : ℕ → Name
+x_at n = name_at n (codes "x")
+
+abbrev pub a : Name
+a = name (codes "a")
+
+abbrev pub b : Name
+b = name (codes "b")
+
+abbrev pub i : Name
+i = name (codes "i")
+
+abbrev pub local : Name → CoreExpr
+local name = Path name.place name NoSteps
+
+abbrev pub at_index : ℕ → CoreExpr → CoreSteps → CoreSteps
+at_index n index rest = IndexStep (at n) index rest

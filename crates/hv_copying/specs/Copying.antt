@@ -48,12 +48,16 @@ if_there (Some u) go = go u
 abbrev pub written : Locals → Spot → ValueTree → Locals
 written e p t = with_tree e p.root (put (tree_at e p.root) p.path t)
 
--- what stood under the reference goes back to its place, which must be there
+-- a reference that is closed stands for nothing
+abbrev pub without : Locals → ℕ → Locals
+without e r = with_tree e r Hole
+
+-- what stands under the reference goes back to its place, which must be there
 abbrev pub write_back : ℕ → Spot → Now Locals → Res (Now Locals)
-write_back r p s = if_there (at_spot s.own p) (λ old. Is (with_own s (written s.own p (tree_at s.own r))))
+write_back r p s = if_there (at_spot s.own p) (λ old. Is (with_own s (without (written s.own p (tree_at s.own r)) r)))
 
 abbrev pub closed : Mode → ℕ → Spot → Now Locals → Res (Now Locals)
-closed Reads r p s = Is s
+closed Reads r p s = Is (with_own s (without s.own r))
 closed Writes r p s = write_back r p s
 closed Sets r p s = write_back r p s
 
