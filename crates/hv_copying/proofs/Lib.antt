@@ -7,3 +7,4 @@ pub mod Richer
 -- examples
 mod Programs
 mod Examples
+mod LentExamples
