@@ -85,7 +85,7 @@ inner_first_traps : node_of inner_first 10 ≡ Some (root 2 (Trapped trap_kind.D
 unfolding node_of ◌>>=◌ pure pay trap counted_from
 inner_first_traps = refl
 
--- ---- `var a: [Int] = filled(-1, 0)`, and `filled(2, 0)` with one step less than it takes
+-- ---- `var a: [Int] = filled(-1, 0)`, one too long, and `filled(2, 0)` with one step less than it takes
 
 abbrev filling : CoreExpr → Core
 filling n = program (main (VarWith o a ints (Filled (at 28) n (num 0)) ∷ []) 45 ∷ [])
@@ -93,6 +93,10 @@ filling n = program (main (VarWith o a ints (Filled (at 28) n (num 0)) ∷ []) 4
 filling_traps : node_of (filling (minus 1)) 10 ≡ Some (root 1 (Trapped trap_kind.BadLength (at 28) here) [])
 unfolding node_of ◌>>=◌ pure pay trap counted_from
 filling_traps = refl
+
+filling_too_long : node_of (filling (num 1048577)) 10 ≡ Some (root 1 (Trapped trap_kind.TooLong (at 28) here) [])
+unfolding node_of ◌>>=◌ pure pay trap counted_from
+filling_too_long = refl
 
 filling_done : node_of (filling (num 2)) 4 ≡ Some (root 4 done [])
 unfolding node_of ◌>>=◌ pure pay counted_from

@@ -171,3 +171,12 @@ fields =
 fields_printed : node_of fields 100 ≡ Some (root 6 done (line (tree.Fields (tree.Cons (number 1) (tree.Cons (number 5) tree.Nil)))))
 unfolding node_of ◌>>=◌ pure pay say counted_from
 fields_printed = refl
+
+-- ---- `fun f() { f() } fun main() { f() }`: the call at depth 1,000 traps
+
+abbrev endless : Core
+endless = program (fun f [] None (CallsAlone o (call f 11 NoArgs) ∷ []) 15 ∷ (main (CallsAlone o (call f 30 NoArgs) ∷ []) 40 ∷ []))
+
+endless_traps : node_of endless 5000 ≡ Some (root 1999 (Trapped trap_kind.TooDeep (at 11) here) [])
+unfolding node_of ◌>>=◌ pure pay trap counted_from
+endless_traps = refl

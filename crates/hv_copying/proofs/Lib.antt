@@ -4,6 +4,7 @@ pub mod Generic
 pub mod Copies
 pub mod GoingOn
 pub mod Richer
+pub mod Sums
 -- examples
 mod Programs
 mod Examples

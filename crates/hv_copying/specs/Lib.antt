@@ -14,3 +14,5 @@ pub mod Meaning
 -- comparing kinds of state
 pub mod Alike
 pub mod Laws
+-- programs that are safe as they stand
+pub mod Sums

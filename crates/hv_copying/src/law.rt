@@ -4,7 +4,8 @@ ghost use Rattle.hv_tree.specs.Core.{Core};
 ghost use Rattle.hv_copying.specs.Node.{Node, used, end_of};
 ghost use Rattle.hv_copying.specs.Run.{Now};
 ghost use Rattle.hv_copying.specs.Copying.{Locals};
-ghost use Rattle.hv_copying.specs.Meaning.{run_of, node_of};
+ghost use Rattle.hv_copying.specs.Meaning.{IsSafe, run_of, node_of};
+ghost use Rattle.hv_copying.specs.Sums.{PrintsSums};
 ghost use Rattle.hv_copying.specs.Laws.{Follows, Leaves, is_spent};
 
 /// Whatever a body does, and however it ends: steps never rise, and output and children are only added.
@@ -20,4 +21,9 @@ pub fn budgets_are_kept()
 /// A bigger budget changes nothing about a run that wasn't spent.
 pub fn bigger_budgets_change_nothing()
     ensures { (tree : Core) (budget more : ℕ) (node : Node) → node_of tree budget ≡ Some node → is_spent (end_of node) ≡ false → node_of tree (budget + more) ≡ Some node }
+{}
+
+/// A program that only prints sums is never stuck, whatever the budget.
+pub fn sums_are_safe()
+    ensures { (tree : Core) → PrintsSums tree → IsSafe tree }
 {}
