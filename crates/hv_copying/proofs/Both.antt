@@ -1,10 +1,9 @@
 -- Related results, and related steps.
-use Rattle.std.proofs.Common.{◌≡◌, ◌≤◌, ◌⊎◌, inl, inr, ℕ, zero, suc, Bool, true, false, if◌then◌else◌, List, Option, Some, None, refl, subst, arith}
+use Rattle.std.proofs.Common.{inl, inr, ℕ, suc, Bool, true, false, if◌then◌else◌, Option, Some, None, refl, subst}
 use Rattle.hv_tree.specs.declared.place.Place.{Place}
-use Rattle.hv_value.specs.ValueTree.{ValueTree}
 use Rattle.hv_copying.specs.declared.end.TrapKind.{TrapKind}
 use Rattle.hv_copying.specs.Node.{Id}
-use Rattle.hv_copying.specs.Run.{Task, Cause, Res, Is, Trap, Spent, Stuck, after, Now, Run, Flow, ◌>>=◌, pure, stuck, trap, spent, known, with_reference, counted_from, unless_left}
+use Rattle.hv_copying.specs.Run.{Task, Cause, Res, Is, Trap, Spent, Stuck, after, Run, Flow, ◌>>=◌, pure, stuck, trap, spent, known, with_reference, counted_from, unless_left}
 use Rattle.hv_copying.specs.Ops.{Ops}
 use Rattle.hv_copying.specs.Alike.{Both, Relation, Ends, Alike, Related}
 

@@ -1,11 +1,11 @@
 -- Each construct is alike over related operations, where its parts are.
-use Rattle.std.proofs.Common.{◌≡◌, ◌≤◌, ◌⊎◌, inl, inr, ℕ, zero, suc, ◌+◌, ℤ, pos, negsuc, Bool, true, false, List, [], ◌∷◌, ◌++◌, length, Option, Some, None, refl, arith}
+use Rattle.std.proofs.Common.{◌≡◌, ◌≤◌, ◌⊎◌, inl, inr, ℕ, zero, suc, ◌+◌, ℤ, pos, negsuc, List, [], ◌∷◌, length, Option, Some, None, arith}
 use Rattle.std.specs.List.{slice_get}
 use Rattle.hv_tree.specs.declared.place.Place.{Place}
 use Rattle.hv_tree.specs.declared.types.Name.{Name}
 use Rattle.hv_tree.specs.declared.types.Conv.{Conv}
 use Rattle.hv_tree.specs.declared.types.Conv.TheVariants as conv
-use Rattle.hv_tree.specs.Core.{Core, CoreFun, CoreStruct, CoreTy, CoreSteps, NoSteps, FieldStep, IndexStep, CoreBlock}
+use Rattle.hv_tree.specs.Core.{Core, CoreFun, CoreStruct, CoreTy, CoreSteps, NoSteps, FieldStep, IndexStep}
 use Rattle.hv_rules.specs.Types.{fun_in, struct_in}
 use Rattle.hv_rules.specs.Locals.{Local, CoreBody, locals_of, number_in}
 use Rattle.hv_rules.specs.Sites.{bodies_of}
@@ -15,24 +15,25 @@ use Rattle.hv_value.specs.Operators.{Given, Gives, Overflow, DivZero, BadLength,
 use Rattle.hv_value.specs.Walk.{Link}
 use Rattle.hv_value.specs.Sizes.{copy_cost, fill_cost}
 use Rattle.hv_copying.specs.declared.end.TrapKind.TheVariants as trap_kind
-use Rattle.hv_copying.specs.Run.{Kinds, Holes, Now, Run, Flow, ◌>>=◌, pure, spent, pay, unless_left}
-use Rattle.hv_copying.specs.Ops.{Target, Spot, Mode, Reads, Writes, Sets, Passed, Value, Lent, Ops}
+use Rattle.hv_copying.specs.Run.{Kinds, Holes, Run, Flow}
+use Rattle.hv_copying.specs.Ops.{Spot, Mode, Reads, Writes, Sets, Passed, Value, Lent, Ops}
 use Rattle.hv_copying.specs.Operations.{number, truth, given, applied, natural, filled_with}
-use Rattle.hv_copying.specs.Places.{body_number, whole, local, target, found, copied, moved, counted, all_of, declared, captured, plain_function}
-use Rattle.hv_copying.specs.Calls.{Callee, Constructs, Enters, result_of, ended, value_callee, enters_fun, struct_callee, fun_callee, top_callee, body_of, callee_by, callee, lent, pass_value, pass_place, own_value, if_deeper, entered, call_by, Child, child_by, budget_of, spawned}
+use Rattle.hv_copying.specs.Places.{body_number, type_of, whole, local, found, copied, moved, counted, all_of, all_found, declared, captured}
+use Rattle.hv_rules.specs.Events.{static_steps}
+use Rattle.hv_copying.specs.Calls.{Callee, Constructs, Enters, Placed, Deeper, result_of, ended, value_callee, struct_callee, fun_callee, top_callee, body_of, callee, lent, pass_value, pass_place, own_value, if_deeper, entered, call_by, Child, child_by, budget_of, spawned}
 use Rattle.hv_copying.specs.Blocks.{chosen, turns, repeated, bound}
 use Rattle.hv_copying.specs.Evaluate.{function_value, top_value, named, if_local}
-use Rattle.hv_copying.specs.Alike.{Both, Relation, Ends, Alike, Related}
+use Rattle.hv_copying.specs.Alike.{Relation, Alike, Related}
 use Rattle.hv_copying.proofs.Both.{bind, pure_alike, stuck_alike, trap_alike, spent_alike, loose_alike, known_alike, if_alike, reference_alike, unless_alike}
 
 -- both are places, or none is
-abbrev pub AlikePlaced : {C D S T : Type 0} → Relation C D S T → Option (Run C S (Spot × ValueTree)) → Option (Run D T (Spot × ValueTree)) → Type 0
+abbrev pub AlikePlaced : {C D S T : Type 0} → Relation C D S T → Placed C S → Placed D T → Type 0
 AlikePlaced r None None = Unit {0}
 AlikePlaced r (Some p) (Some q) = Alike r p q
 AlikePlaced r _ _ = ⊥
 
 -- both have bodies to enter, or none has
-abbrev pub AlikeDeeper : {C D S T : Type 0} → Relation C D S T → Option (ℕ → Run C S Flow) → Option (ℕ → Run D T Flow) → Type 0
+abbrev pub AlikeDeeper : {C D S T : Type 0} → Relation C D S T → Deeper C S → Deeper D T → Type 0
 AlikeDeeper r None None = Unit {0}
 AlikeDeeper r (Some f) (Some g) = (b : ℕ) → Alike r (f b) (g b)
 AlikeDeeper r _ _ = ⊥
@@ -75,61 +76,62 @@ module _ {C D S T : Type 0} (r : Relation C D S T) (A : Ops C S) (B : Ops D T) (
   pub whole_alike : (t : ValueTree) → Alike r (whole t) (whole t)
   whole_alike t = if_alike r A B ok (is_whole t) (pure_alike r A B ok t) (stuck_alike r A B ok Holes)
 
-  module _ (tree : Core) (locals : List Local) where
-    pub local_alike : (name : Name) → Alike r (local A tree locals name) (local B tree locals name)
+  pub copied_alike : (at : Place) {p : Run C S (Spot × ValueTree)} {q : Run D T (Spot × ValueTree)} → Alike r p q → Alike r (copied at p) (copied at q)
+  copied_alike at h =
+      bind r A B ok h (λ f. bind r A B ok (whole_alike f.1) (λ v. bind r A B ok (ok.pays (copy_cost v) at) (λ paid. pure_alike r A B ok v)))
+
+  pub counted_alike : (f : Spot × ValueTree) → Alike r (counted f) (counted f)
+  counted_alike f = known_alike r A B ok Holes (length_of f.1)
+
+  pub moved_alike : (f : Spot × ValueTree) → Alike r (moved A f) (moved B f)
+  moved_alike f = bind r A B ok (whole_alike f.1) (λ v. bind r A B ok (ok.write f.0 (emptied v)) (λ done. pure_alike r A B ok v))
+
+  module _ (locals : List Local) where
+    pub local_alike : (name : Name) → Alike r (local locals name) (local locals name)
     local_alike name = known_alike r A B ok Kinds (number_in locals name.text)
 
-    pub found_alike : (root : Name) (steps : CoreSteps) {p : Run C S (List (Link Place))} {q : Run D T (List (Link Place))} → Alike r p q → Alike r (found A tree locals root steps p) (found B tree locals root steps q)
-    found_alike root steps h =
-        bind r A B ok (local_alike root) (λ x. bind r A B ok h (λ links. ok.look (target A tree locals x root steps links)))
+    pub found_alike : (tree : Core) (root : Name) (steps : CoreSteps) {p : Run C S (List (Link Place))} {q : Run D T (List (Link Place))} → Alike r p q → Alike r (found A locals tree root steps p) (found B locals tree root steps q)
+    found_alike tree root steps h =
+        bind r A B ok (local_alike root) (λ x.
+        bind r A B ok h (λ links. ok.look (record { root = x; written = static_steps tree (type_of locals root) steps; links = links })))
 
-    pub copied_alike : (at : Place) {p : Run C S (Spot × ValueTree)} {q : Run D T (Spot × ValueTree)} → Alike r p q → Alike r (copied A tree locals at p) (copied B tree locals at q)
-    copied_alike at h =
-        bind r A B ok h (λ f. bind r A B ok (whole_alike f.1) (λ v. bind r A B ok (ok.pays (copy_cost v) at) (λ paid. pure_alike r A B ok v)))
+    pub declared_alike : (name : Name) (v : ValueTree) → Alike r (declared A locals name v) (declared B locals name v)
+    declared_alike name v = bind r A B ok (local_alike name) (λ x. ok.write (all_of x) v)
 
-    pub moved_alike : (f : Spot × ValueTree) → Alike r (moved A tree locals f) (moved B tree locals f)
-    moved_alike f = bind r A B ok (whole_alike f.1) (λ v. bind r A B ok (ok.write f.0 (emptied v)) (λ done. pure_alike r A B ok v))
+    all_found_alike : (name : Name) → Alike r (all_found A locals name) (all_found B locals name)
+    all_found_alike name = bind r A B ok (local_alike name) (λ x. ok.look (record { root = x; written = []; links = [] }))
 
-    pub counted_alike : (f : Spot × ValueTree) → Alike r (counted A tree locals f) (counted B tree locals f)
-    counted_alike f = known_alike r A B ok Holes (length_of f.1)
-
-    pub declared_alike : (name : Name) (v : ValueTree) → Alike r (declared A tree locals name v) (declared B tree locals name v)
-    declared_alike name v = bind r A B ok (local_alike name) (λ x. ok.write (all_of A tree locals x) v)
-
-    pub captured_alike : (names : List Name) → Alike r (captured A tree locals names) (captured B tree locals names)
+    pub captured_alike : (names : List Name) → Alike r (captured A locals names) (captured B locals names)
     captured_alike [] = pure_alike r A B ok Nil
     captured_alike (name ∷ names) =
-        bind r A B ok (copied_alike name.place (bind r A B ok (local_alike name) (λ x. ok.look (record { root = x; written = []; links = [] })))) (λ v.
-        bind r A B ok (captured_alike names) (λ vs. pure_alike r A B ok (Cons v vs)))
+        bind r A B ok (copied_alike name.place (all_found_alike name)) (λ v. bind r A B ok (captured_alike names) (λ vs. pure_alike r A B ok (Cons v vs)))
 
-    pub plain_function_alike : (block : CoreBlock) (bodies : List CoreBody) → Alike r (plain_function A tree locals block bodies) (plain_function B tree locals block bodies)
-    plain_function_alike block bodies = bind r A B ok (known_alike r A B ok Kinds (body_number bodies block)) (λ f. pure_alike r A B ok (Closure f Nil))
-
-    function_value_alike : (f : Option CoreFun) → Alike r (function_value A tree locals f) (function_value B tree locals f)
-    function_value_alike None = stuck_alike r A B ok Kinds
-    function_value_alike (Some f) = plain_function_alike f.body (bodies_of tree)
-
-    top_value_alike : (root : Name) (steps : CoreSteps) → Alike r (top_value A tree locals root steps) (top_value B tree locals root steps)
-    top_value_alike root NoSteps = function_value_alike (fun_in tree.decls root.text)
-    top_value_alike root (FieldStep name rest) = stuck_alike r A B ok Kinds
-    top_value_alike root (IndexStep at x rest) = stuck_alike r A B ok Kinds
-
-    pub named_alike : (o : Option ℕ) (root : Name) (steps : CoreSteps) {p : Run C S (Spot × ValueTree)} {q : Run D T (Spot × ValueTree)} → Alike r p q → Alike r (named A tree locals o root steps p) (named B tree locals o root steps q)
-    named_alike None root steps h = top_value_alike root steps
-    named_alike (Some x) root steps h = copied_alike root.place h
-
-    pub placed_alike : (o : Option ℕ) {p : Run C S (Spot × ValueTree)} {q : Run D T (Spot × ValueTree)} → Alike r p q → AlikePlaced r (if_local o p) (if_local o q)
-    placed_alike None h = tt
-    placed_alike (Some x) h = h
-
-    -- ---- bindings
-
-    pub bound_alike : (name : Name) (p : Option (Run C S (Spot × ValueTree))) (q : Option (Run D T (Spot × ValueTree))) → AlikePlaced r p q →
-        {x : Run C S ValueTree} {y : Run D T ValueTree} → Alike r x y → {f : Run C S Flow} {g : Run D T Flow} → Alike r f g → Alike r (bound A tree locals name p x f) (bound B tree locals name q y g)
+    pub bound_alike : (name : Name) (p : Placed C S) (q : Placed D T) → AlikePlaced r p q →
+        {x : Run C S ValueTree} {y : Run D T ValueTree} → Alike r x y → {f : Run C S Flow} {g : Run D T Flow} → Alike r f g → Alike r (bound A locals name p x f) (bound B locals name q y g)
     bound_alike name (Some p) (Some q) h k {f} {g} go = bind r A B ok h (λ a. bind r A B ok (local_alike name) (λ n. ok.under Reads n a.0 f g go))
     bound_alike name None None h k go = bind r A B ok k (λ v. bind r A B ok (declared_alike name v) (λ done. go))
     bound_alike name (Some p) None h k go = absurd h
     bound_alike name None (Some q) h k go = absurd h
+
+  -- ---- names
+
+  module _ (tree : Core) where
+    function_value_alike : (f : Option CoreFun) → Alike r (function_value tree f) (function_value tree f)
+    function_value_alike None = stuck_alike r A B ok Kinds
+    function_value_alike (Some f) = bind r A B ok (known_alike r A B ok Kinds (body_number (bodies_of tree) f.body)) (λ n. pure_alike r A B ok (Closure n Nil))
+
+    top_value_alike : (root : Name) (steps : CoreSteps) → Alike r (top_value tree root steps) (top_value tree root steps)
+    top_value_alike root NoSteps = function_value_alike (fun_in tree.decls root.text)
+    top_value_alike root (FieldStep name rest) = stuck_alike r A B ok Kinds
+    top_value_alike root (IndexStep at x rest) = stuck_alike r A B ok Kinds
+
+    pub named_alike : (o : Option ℕ) (root : Name) (steps : CoreSteps) {p : Run C S (Spot × ValueTree)} {q : Run D T (Spot × ValueTree)} → Alike r p q → Alike r (named tree o root steps p) (named tree o root steps q)
+    named_alike None root steps h = top_value_alike root steps
+    named_alike (Some x) root steps h = copied_alike root.place h
+
+  pub placed_alike : (o : Option ℕ) {p : Run C S (Spot × ValueTree)} {q : Run D T (Spot × ValueTree)} → Alike r p q → AlikePlaced r (if_local o p) (if_local o q)
+  placed_alike None h = tt
+  placed_alike (Some x) h = h
 
   -- ---- tests and loops
 
@@ -174,7 +176,7 @@ module _ {C D S T : Type 0} (r : Relation C D S T) (A : Ops C S) (B : Ops D T) (
   value_callee_alike (Fields ts) = stuck_alike r A B ok Kinds
   value_callee_alike (Elements ts) = stuck_alike r A B ok Kinds
 
-  module _ (tree : Core) (locals : List Local) where
+  module _ (tree : Core) where
     struct_callee_alike : (s : Option CoreStruct) → Alike r (struct_callee tree s) (struct_callee tree s)
     struct_callee_alike None = stuck_alike r A B ok Kinds
     struct_callee_alike (Some s) = pure_alike r A B ok Constructs
@@ -188,83 +190,81 @@ module _ {C D S T : Type 0} (r : Relation C D S T) (A : Ops C S) (B : Ops D T) (
     top_callee_alike root (FieldStep name rest) = stuck_alike r A B ok Kinds
     top_callee_alike root (IndexStep at x rest) = stuck_alike r A B ok Kinds
 
+    pub callee_alike : (o : Option ℕ) (root : Name) (steps : CoreSteps) {p : Run C S (Spot × ValueTree)} {q : Run D T (Spot × ValueTree)} → Alike r p q → Alike r (callee tree o root steps p) (callee tree o root steps q)
+    callee_alike None root steps h = top_callee_alike root steps
+    callee_alike (Some x) root steps h = bind r A B ok (copied_alike root.place h) value_callee_alike
+
     body_alike : (f : ℕ) → Alike r (body_of tree f) (body_of tree f)
     body_alike f = known_alike r A B ok Kinds (slice_get (bodies_of tree) f)
 
-    module _ (deeper : Option (ℕ → Run C S Flow)) (deeper' : Option (ℕ → Run D T Flow)) (down : AlikeDeeper r deeper deeper') where
-      callee_by_alike : (o : Option ℕ) (root : Name) (steps : CoreSteps) {p : Run C S (Spot × ValueTree)} {q : Run D T (Spot × ValueTree)} → Alike r p q → Alike r (callee_by A tree locals deeper o root steps p) (callee_by B tree locals deeper' o root steps q)
-      callee_by_alike None root steps h = top_callee_alike root steps
-      callee_by_alike (Some x) root steps h = bind r A B ok (copied_alike tree locals root.place h) value_callee_alike
+    pub call_by_alike : (who : Callee) {p : Run C S (List ValueTree)} {q : Run D T (List ValueTree)} → Alike r p q → (f : ℕ → Parts → CoreBody → Run C S Flow) (g : ℕ → Parts → CoreBody → Run D T Flow) →
+        ((n : ℕ) (captures : Parts) (body : CoreBody) → Alike r (f n captures body) (g n captures body)) → Alike r (call_by tree who p f) (call_by tree who q g)
+    call_by_alike Constructs h f g k = bind r A B ok h (λ vs. pure_alike r A B ok (Fields (row vs)))
+    call_by_alike (Enters n captures) h f g k = bind r A B ok (body_alike n) (λ body. bind r A B ok (k n captures body) (λ flow. pure_alike r A B ok (result_of flow)))
 
-      pub callee_alike : (root : Name) (steps : CoreSteps) {p : Run C S (Spot × ValueTree)} {q : Run D T (Spot × ValueTree)} → Alike r p q → Alike r (callee A tree locals deeper root steps p) (callee B tree locals deeper' root steps q)
-      callee_alike root steps h = callee_by_alike (number_in locals root.text) root steps h
+    pub child_by_alike : (who : Callee) (f : ℕ → Parts → CoreBody → Run C S (List Passed)) (g : ℕ → Parts → CoreBody → Run D T (List Passed)) →
+        ((n : ℕ) (captures : Parts) (body : CoreBody) → Alike r (f n captures body) (g n captures body)) → Alike r (child_by tree who f) (child_by tree who g)
+    child_by_alike Constructs f g k = stuck_alike r A B ok Kinds
+    child_by_alike (Enters n captures) f g k =
+        bind r A B ok (body_alike n) (λ body. bind r A B ok (k n captures body) (λ ps. pure_alike r A B ok (record { number = n; body = body; given = ps })))
 
-      AlikeGoing : (Passed → Run C S Flow) → (Passed → Run D T Flow) → Type 0
-      AlikeGoing f g = (a : Passed) → Alike r (f a) (g a)
+  -- ---- arguments
 
-      lent_alike : (mode : Mode) (p : Spot) (f : Passed → Run C S Flow) (g : Passed → Run D T Flow) → ((a : Passed) → Alike r (f a) (g a)) → Alike r (lent A tree locals deeper mode p f) (lent B tree locals deeper' mode p g)
-      lent_alike mode p f g h =
-          reference_alike r A B ok (λ n. A.under mode n p (f (Lent n))) (λ n. B.under mode n p (g (Lent n))) (λ n. ok.under mode n p (f (Lent n)) (g (Lent n)) (h (Lent n)))
+  lent_alike : (mode : Mode) (p : Spot) (f : Passed → Run C S Flow) (g : Passed → Run D T Flow) → ((a : Passed) → Alike r (f a) (g a)) → Alike r (lent A mode p f) (lent B mode p g)
+  lent_alike mode p f g h =
+      reference_alike r A B ok (λ n. A.under mode n p (f (Lent n))) (λ n. B.under mode n p (g (Lent n))) (λ n. ok.under mode n p (f (Lent n)) (g (Lent n)) (h (Lent n)))
 
-      pub pass_value_alike : (cv : Conv) (p : Option (Run C S (Spot × ValueTree))) (q : Option (Run D T (Spot × ValueTree))) → AlikePlaced r p q →
-          {x : Run C S ValueTree} {y : Run D T ValueTree} → Alike r x y → (f : Passed → Run C S Flow) (g : Passed → Run D T Flow) → ((a : Passed) → Alike r (f a) (g a)) →
-          Alike r (pass_value A tree locals deeper cv p x f) (pass_value B tree locals deeper' cv q y g)
-      pass_value_alike conv.Let (Some p) (Some q) h k f g go = bind r A B ok h (λ a. lent_alike Reads a.0 f g go)
-      pass_value_alike conv.Let None None h k f g go = bind r A B ok k (λ v. go (Value Reads v))
-      pass_value_alike conv.Let (Some p) None h k f g go = absurd h
-      pass_value_alike conv.Let None (Some q) h k f g go = absurd h
-      pass_value_alike conv.Sink (Some p) (Some q) h k f g go = bind r A B ok h (λ a. bind r A B ok (moved_alike tree locals a) (λ v. go (Value Writes v)))
-      pass_value_alike conv.Sink None None h k f g go = bind r A B ok k (λ v. go (Value Writes v))
-      pass_value_alike conv.Sink (Some p) None h k f g go = absurd h
-      pass_value_alike conv.Sink None (Some q) h k f g go = absurd h
-      pass_value_alike conv.Inout p q h k f g go = stuck_alike r A B ok Kinds
-      pass_value_alike conv.Set p q h k f g go = stuck_alike r A B ok Kinds
+  pub pass_value_alike : (cv : Conv) (p : Placed C S) (q : Placed D T) → AlikePlaced r p q →
+      {x : Run C S ValueTree} {y : Run D T ValueTree} → Alike r x y → (f : Passed → Run C S Flow) (g : Passed → Run D T Flow) → ((a : Passed) → Alike r (f a) (g a)) →
+      Alike r (pass_value A cv p x f) (pass_value B cv q y g)
+  pass_value_alike conv.Let (Some p) (Some q) h k f g go = bind r A B ok h (λ a. lent_alike Reads a.0 f g go)
+  pass_value_alike conv.Let None None h k f g go = bind r A B ok k (λ v. go (Value Reads v))
+  pass_value_alike conv.Let (Some p) None h k f g go = absurd h
+  pass_value_alike conv.Let None (Some q) h k f g go = absurd h
+  pass_value_alike conv.Sink (Some p) (Some q) h k f g go = bind r A B ok h (λ a. bind r A B ok (moved_alike a) (λ v. go (Value Writes v)))
+  pass_value_alike conv.Sink None None h k f g go = bind r A B ok k (λ v. go (Value Writes v))
+  pass_value_alike conv.Sink (Some p) None h k f g go = absurd h
+  pass_value_alike conv.Sink None (Some q) h k f g go = absurd h
+  pass_value_alike conv.Inout p q h k f g go = stuck_alike r A B ok Kinds
+  pass_value_alike conv.Set p q h k f g go = stuck_alike r A B ok Kinds
 
-      pub pass_place_alike : (cv : Conv) {p : Run C S (Spot × ValueTree)} {q : Run D T (Spot × ValueTree)} → Alike r p q → (f : Passed → Run C S Flow) (g : Passed → Run D T Flow) → ((a : Passed) → Alike r (f a) (g a)) →
-          Alike r (pass_place A tree locals deeper cv p f) (pass_place B tree locals deeper' cv q g)
-      pass_place_alike conv.Inout h f g go = bind r A B ok h (λ a. lent_alike Writes a.0 f g go)
-      pass_place_alike conv.Set h f g go = bind r A B ok h (λ a. bind r A B ok (ok.write a.0 (emptied a.1)) (λ done. lent_alike Sets a.0 f g go))
-      pass_place_alike conv.Let h f g go = stuck_alike r A B ok Kinds
-      pass_place_alike conv.Sink h f g go = stuck_alike r A B ok Kinds
+  pub pass_place_alike : (cv : Conv) {p : Run C S (Spot × ValueTree)} {q : Run D T (Spot × ValueTree)} → Alike r p q → (f : Passed → Run C S Flow) (g : Passed → Run D T Flow) → ((a : Passed) → Alike r (f a) (g a)) →
+      Alike r (pass_place A cv p f) (pass_place B cv q g)
+  pass_place_alike conv.Inout h f g go = bind r A B ok h (λ a. lent_alike Writes a.0 f g go)
+  pass_place_alike conv.Set h f g go = bind r A B ok h (λ a. bind r A B ok (ok.write a.0 (emptied a.1)) (λ done. lent_alike Sets a.0 f g go))
+  pass_place_alike conv.Let h f g go = stuck_alike r A B ok Kinds
+  pass_place_alike conv.Sink h f g go = stuck_alike r A B ok Kinds
 
-      pub own_value_alike : (cv : Conv) (p : Option (Run C S (Spot × ValueTree))) (q : Option (Run D T (Spot × ValueTree))) → AlikePlaced r p q → {x : Run C S ValueTree} {y : Run D T ValueTree} → Alike r x y →
-          Alike r (own_value A tree locals deeper cv p x) (own_value B tree locals deeper' cv q y)
-      own_value_alike conv.Let p q h k = bind r A B ok k (λ v. pure_alike r A B ok (Value Reads v))
-      own_value_alike conv.Sink (Some p) (Some q) h k = bind r A B ok h (λ a. bind r A B ok (moved_alike tree locals a) (λ v. pure_alike r A B ok (Value Writes v)))
-      own_value_alike conv.Sink None None h k = bind r A B ok k (λ v. pure_alike r A B ok (Value Writes v))
-      own_value_alike conv.Sink (Some p) None h k = absurd h
-      own_value_alike conv.Sink None (Some q) h k = absurd h
-      own_value_alike conv.Inout p q h k = stuck_alike r A B ok Kinds
-      own_value_alike conv.Set p q h k = stuck_alike r A B ok Kinds
+  pub own_value_alike : (cv : Conv) (p : Placed C S) (q : Placed D T) → AlikePlaced r p q → {x : Run C S ValueTree} {y : Run D T ValueTree} → Alike r x y →
+      Alike r (own_value A cv p x) (own_value B cv q y)
+  own_value_alike conv.Let p q h k = bind r A B ok k (λ v. pure_alike r A B ok (Value Reads v))
+  own_value_alike conv.Sink (Some p) (Some q) h k = bind r A B ok h (λ a. bind r A B ok (moved_alike a) (λ v. pure_alike r A B ok (Value Writes v)))
+  own_value_alike conv.Sink None None h k = bind r A B ok k (λ v. pure_alike r A B ok (Value Writes v))
+  own_value_alike conv.Sink (Some p) None h k = absurd h
+  own_value_alike conv.Sink None (Some q) h k = absurd h
+  own_value_alike conv.Inout p q h k = stuck_alike r A B ok Kinds
+  own_value_alike conv.Set p q h k = stuck_alike r A B ok Kinds
 
-      deeper_alike : {X : Type 0} (d : Option (ℕ → Run C S Flow)) (d' : Option (ℕ → Run D T Flow)) → AlikeDeeper r d d' → (at : Place) (f : (ℕ → Run C S Flow) → Run C S X) (g : (ℕ → Run D T Flow) → Run D T X) →
-          ((p : ℕ → Run C S Flow) (q : ℕ → Run D T Flow) → ((b : ℕ) → Alike r (p b) (q b)) → Alike r (f p) (g q)) → Alike r (if_deeper A tree locals deeper d at f) (if_deeper B tree locals deeper' d' at g)
-      deeper_alike None None h at f g k = trap_alike r A B ok trap_kind.TooDeep at
-      deeper_alike (Some p) (Some q) h at f g k = k p q h
-      deeper_alike None (Some q) h at f g k = absurd h
-      deeper_alike (Some p) None h at f g k = absurd h
+  -- ---- activations
 
-      pub entered_alike : (at : Place) (f : ℕ) (body : CoreBody) (given : List Passed) → Alike r (entered A tree locals deeper at f body given) (entered B tree locals deeper' at f body given)
-      entered_alike at f body given =
-          deeper_alike deeper deeper' down at _ _ (λ p q h. bind r A B ok (ok.pays 1 at) (λ paid. ok.call (length (locals_of body)) given (p f) (q f) (h f)))
+  deeper_alike : {X : Type 0} (d : Deeper C S) (d' : Deeper D T) → AlikeDeeper r d d' → (at : Place) (f : (ℕ → Run C S Flow) → Run C S X) (g : (ℕ → Run D T Flow) → Run D T X) →
+      ((p : ℕ → Run C S Flow) (q : ℕ → Run D T Flow) → ((b : ℕ) → Alike r (p b) (q b)) → Alike r (f p) (g q)) → Alike r (if_deeper d at f) (if_deeper d' at g)
+  deeper_alike None None h at f g k = trap_alike r A B ok trap_kind.TooDeep at
+  deeper_alike (Some p) (Some q) h at f g k = k p q h
+  deeper_alike None (Some q) h at f g k = absurd h
+  deeper_alike (Some p) None h at f g k = absurd h
 
-      pub call_by_alike : (who : Callee) {p : Run C S (List ValueTree)} {q : Run D T (List ValueTree)} → Alike r p q → (f : ℕ → Parts → CoreBody → Run C S Flow) (g : ℕ → Parts → CoreBody → Run D T Flow) →
-          ((n : ℕ) (captures : Parts) (body : CoreBody) → Alike r (f n captures body) (g n captures body)) → Alike r (call_by A tree locals deeper who p f) (call_by B tree locals deeper' who q g)
-      call_by_alike Constructs h f g k = bind r A B ok h (λ vs. pure_alike r A B ok (Fields (row vs)))
-      call_by_alike (Enters n captures) h f g k = bind r A B ok (body_alike n) (λ body. bind r A B ok (k n captures body) (λ flow. pure_alike r A B ok (result_of flow)))
+  budget_alike : (at : Place) (z : ℤ) → Alike r (budget_of at z) (budget_of at z)
+  budget_alike at (pos zero) = trap_alike r A B ok trap_kind.BadBudget at
+  budget_alike at (pos (suc k)) = pure_alike r A B ok (suc k)
+  budget_alike at (negsuc k) = trap_alike r A B ok trap_kind.BadBudget at
 
-      pub child_by_alike : (who : Callee) (f : ℕ → Parts → CoreBody → Run C S (List Passed)) (g : ℕ → Parts → CoreBody → Run D T (List Passed)) →
-          ((n : ℕ) (captures : Parts) (body : CoreBody) → Alike r (f n captures body) (g n captures body)) → Alike r (child_by A tree locals deeper who f) (child_by B tree locals deeper' who g)
-      child_by_alike Constructs f g k = stuck_alike r A B ok Kinds
-      child_by_alike (Enters n captures) f g k =
-          bind r A B ok (body_alike n) (λ body. bind r A B ok (k n captures body) (λ ps. pure_alike r A B ok (record { number = n; body = body; given = ps })))
+  module _ (deeper : Deeper C S) (deeper' : Deeper D T) (down : AlikeDeeper r deeper deeper') where
+    pub entered_alike : (at : Place) (f : ℕ) (body : CoreBody) (given : List Passed) → Alike r (entered A deeper at f body given) (entered B deeper' at f body given)
+    entered_alike at f body given =
+        deeper_alike deeper deeper' down at _ _ (λ p q h. bind r A B ok (ok.pays 1 at) (λ paid. ok.call (length (locals_of body)) given (p f) (q f) (h f)))
 
-      budget_alike : (at : Place) (z : ℤ) → Alike r (budget_of A tree locals deeper at z) (budget_of B tree locals deeper' at z)
-      budget_alike at (pos zero) = trap_alike r A B ok trap_kind.BadBudget at
-      budget_alike at (pos (suc k)) = pure_alike r A B ok (suc k)
-      budget_alike at (negsuc k) = trap_alike r A B ok trap_kind.BadBudget at
-
-      pub spawned_alike : (h : ℕ) (at : Place) (z : ℤ) (child : Child) → Alike r (spawned A tree locals deeper h at z child) (spawned B tree locals deeper' h at z child)
-      spawned_alike h at z child =
-          bind r A B ok (budget_alike at z) (λ k.
-          deeper_alike deeper deeper' down at _ _ (λ p q e. bind r A B ok (ok.pays (1 + k) at) (λ paid. ok.spawn h k (length (locals_of child.body)) child.given (p child.number) (q child.number) (e child.number))))
+    pub spawned_alike : (h : ℕ) (at : Place) (z : ℤ) (child : Child) → Alike r (spawned A deeper h at z child) (spawned B deeper' h at z child)
+    spawned_alike h at z child =
+        bind r A B ok (budget_alike at z) (λ k.
+        deeper_alike deeper deeper' down at _ _ (λ p q e. bind r A B ok (ok.pays (1 + k) at) (λ paid. ok.spawn h k (length (locals_of child.body)) child.given (p child.number) (q child.number) (e child.number))))

@@ -3,7 +3,7 @@ use Rattle.std.proofs.Common.{◌≡◌, ◌≤◌, ◌⊎◌, ℕ, List, [], Op
 use Rattle.hv_tree.specs.declared.place.Place.{Place}
 use Rattle.hv_value.specs.ValueTree.{ValueTree}
 use Rattle.hv_value.specs.Walk.{Reached, Reaches, Outside, Lost, walk}
-use Rattle.hv_copying.specs.Run.{Task, Tasks, Res, Is, Stuck, after, Now, Run, Flow, pure, stuck, trap, pay, say}
+use Rattle.hv_copying.specs.Run.{Task, Tasks, Is, after, Now, Run, Flow, pure, stuck, trap, pay, say}
 use Rattle.hv_copying.specs.Ops.{Target, Spot, Mode, Reads, Writes, Sets, Passed}
 use Rattle.hv_copying.specs.Copying.{Locals, tree_at, with_tree, with_own, arrived, at_spot, if_there, written, without, write_back, closed, callee_trees, returned, copying}
 use Rattle.hv_copying.specs.Alike.{Both, Relation, Ends, Alike, Related}

@@ -1,15 +1,13 @@
 -- Small programs and what their roots do, worked out by hand. A place is told where something is told of it.
-use Rattle.std.proofs.Common.{◌≡◌, ℕ, pos, negsuc, true, false, List, [], ◌∷◌, Some, None, codes, refl}
-use Rattle.hv_tree.specs.declared.types.Conv.TheVariants as conv
+use Rattle.std.proofs.Common.{◌≡◌, ℕ, pos, negsuc, false, [], ◌∷◌, Some, refl}
 use Rattle.hv_tree.specs.declared.ast.Operator.TheVariants as operator
-use Rattle.hv_tree.specs.Core.{Core, CoreDecl, CoreStmt, Print, Var, VarWith, Let, Inout, Assign, If, BranchOf, Else, NoElse, While, Return, ReturnWith, CallsAlone, CoreExpr, Number, Truth, Path, Array, Filled, Lambda, Prefix, Calls, NoSteps, NoArgs, ValueArg, RefArg, ArrayTy, FunToTy, TyOf, NoTys}
+use Rattle.hv_tree.specs.Core.{Core, Print, VarWith, If, BranchOf, NoElse, CoreExpr, Truth, Path, Array, Filled, Prefix, NoSteps, ArrayTy}
 use Rattle.hv_value.specs.ValueTree as tree
 use Rattle.hv_copying.specs.declared.end.TrapKind.TheVariants as trap_kind
 use Rattle.hv_copying.specs.Node.{Trapped, SpentAt, Id}
-use Rattle.hv_copying.specs.Run.{◌>>=◌, pure, stuck, trap, spent, pay, say, with_reference, counted_from}
-use Rattle.hv_copying.specs.Blocks.{repeated}
+use Rattle.hv_copying.specs.Run.{◌>>=◌, pure, trap, pay, say, counted_from}
 use Rattle.hv_copying.specs.Meaning.{node_of}
-use Rattle.hv_copying.proofs.Programs.{at, o, name_at, name, stmts, block, fun, main, program, param, int, ints, num, between, exprs, call, root, done, line, and_line, x, x_at, a, b, i, local, at_index}
+use Rattle.hv_copying.proofs.Programs.{at, o, block, main, program, ints, num, between, exprs, root, done, line, and_line, a, at_index}
 
 abbrev number : ℕ → tree.ValueTree
 number n = tree.Number (pos n)

@@ -1,8 +1,6 @@
 -- Related operations give related runs.
-use Rattle.std.proofs.Common.{◌≡◌, ℕ, zero, suc, pos, Bool, true, false, if◌then◌else◌, List, [], ◌∷◌, ◌++◌, length, Option, Some, None, refl}
+use Rattle.std.proofs.Common.{ℕ, zero, suc, pos, List, [], ◌∷◌, ◌++◌, length, Option, Some, None}
 use Rattle.std.specs.List.{slice_get}
-use Rattle.hv_tree.specs.declared.place.Place.{Place}
-use Rattle.hv_tree.specs.declared.types.Name.{Name}
 use Rattle.hv_tree.specs.Core.{Core, CoreParam, CoreExpr, Number, Truth, Path, Calls, Awaits, Array, Filled, Count, Lambda, Prefix, Chain, CoreExprs, NoExprs, ExprOf, CoreLinks, NoLinks, LinkOf, CoreSteps, NoSteps, FieldStep, IndexStep, CoreCall, CallOf, CoreArgs, NoArgs, ValueArg, RefArg, CoreBlock, BlockOf, CoreStmts, NoStmts, StmtOf, CoreBranches, NoElse, Else, BranchOf, CoreStmt, Var, VarWith, Let, Inout, Assign, If, While, Return, ReturnWith, Print, Task, AwaitsAlone, CallsAlone, Bare}
 use Rattle.hv_rules.specs.Types.{ValueType}
 use Rattle.hv_rules.specs.Locals.{Local, CoreBody, locals_of, number_in}
@@ -11,37 +9,37 @@ use Rattle.hv_rules.specs.Events.{field_at, element_at}
 use Rattle.hv_value.specs.ValueTree.{ValueTree, Fields, Elements, Closure, Parts, Nil, row}
 use Rattle.hv_value.specs.ValueTree as v
 use Rattle.hv_value.specs.Texts.{text}
-use Rattle.hv_value.specs.Walk.{Link, ToField, ToIndex}
-use Rattle.hv_copying.specs.Run.{Run, Flow, Kinds, ◌>>=◌, pure, unless_left}
-use Rattle.hv_copying.specs.Ops.{Spot, Writes, Passed, Ops}
+use Rattle.hv_value.specs.Walk.{ToField, ToIndex}
+use Rattle.hv_copying.specs.Run.{Run, Flow, Kinds}
+use Rattle.hv_copying.specs.Ops.{Writes, Passed, Ops}
 use Rattle.hv_copying.specs.Operations.{binary, unary, decides}
 use Rattle.hv_copying.specs.Places.{holes, body_number, type_of}
-use Rattle.hv_copying.specs.Calls.{passed_captures, Child}
+use Rattle.hv_copying.specs.Calls.{Deeper, passed_captures}
 use Rattle.hv_copying.specs.Blocks.{first_token}
-use Rattle.hv_copying.specs.Evaluate.{value, values, chained, indices, place_in, call, parts, args, child, own_values, block, statements, statement, choices, body_run, body_by, bodies_run, activations}
+use Rattle.hv_copying.specs.Evaluate.{value, values, chained, indices, place_in, call, parts, args, child, own_values, block, statements, statement, choices, body_by, bodies_run, activations}
 use Rattle.hv_copying.specs.Alike.{Relation, Alike, Related}
 use Rattle.hv_copying.proofs.Both.{bind, pure_alike, stuck_alike, known_alike, if_alike, counted_alike, unless_alike}
 use Rattle.hv_copying.proofs.Constructs as is
 use Rattle.hv_copying.proofs.Constructs.{AlikePlaced, AlikeDeeper}
 
 module _ {C D S T : Type 0} (r : Relation C D S T) (A : Ops C S) (B : Ops D T) (ok : Related r A B) (tree : Core) where
-  module _ (locals : List Local) (deeper : Option (ℕ → Run C S Flow)) (deeper' : Option (ℕ → Run D T Flow)) (down : AlikeDeeper r deeper deeper') where
+  module _ (locals : List Local) (deeper : Deeper C S) (deeper' : Deeper D T) (down : AlikeDeeper r deeper deeper') where
     mutual
       pub value_alike : (x : CoreExpr) → Alike r (value A tree locals deeper x) (value B tree locals deeper' x)
       value_alike (Number at z) = pure_alike r A B ok (v.Number z)
       value_alike (Truth at b) = pure_alike r A B ok (v.Truth b)
       value_alike (Path at root steps) =
-          is.named_alike r A B ok tree locals (number_in locals root.text) root steps (is.found_alike r A B ok tree locals root steps (indices_alike (type_of A tree locals root) steps))
+          is.named_alike r A B ok tree (number_in locals root.text) root steps (is.found_alike r A B ok locals tree root steps (indices_alike (type_of locals root) steps))
       value_alike (Calls at c) = call_alike c
-      value_alike (Awaits at name) = bind r A B ok (is.local_alike r A B ok tree locals name) ok.await
+      value_alike (Awaits at name) = bind r A B ok (is.local_alike r A B ok locals name) ok.await
       value_alike (Array at xs) = bind r A B ok (values_alike xs) (λ vs. pure_alike r A B ok (Elements (row vs)))
       value_alike (Filled at len x) =
           bind r A B ok (value_alike len) (λ n. bind r A B ok (value_alike x) (λ w. bind r A B ok (is.number_alike r A B ok n) (is.filled_alike r A B ok at w)))
       value_alike (Count at root steps) =
-          bind r A B ok (is.found_alike r A B ok tree locals root steps (indices_alike (type_of A tree locals root) steps)) (λ f.
-          bind r A B ok (is.counted_alike r A B ok tree locals f) (λ n. pure_alike r A B ok (v.Number (pos n))))
+          bind r A B ok (is.found_alike r A B ok locals tree root steps (indices_alike (type_of locals root) steps)) (λ f.
+          bind r A B ok (is.counted_alike r A B ok f) (λ n. pure_alike r A B ok (v.Number (pos n))))
       value_alike (Lambda at captures params result body) =
-          bind r A B ok (is.captured_alike r A B ok tree locals captures) (λ vs.
+          bind r A B ok (is.captured_alike r A B ok locals captures) (λ vs.
           bind r A B ok (known_alike r A B ok Kinds (body_number (bodies_of tree) body)) (λ f. pure_alike r A B ok (Closure f vs)))
       value_alike (Prefix at op x) = bind r A B ok (value_alike x) (λ w. is.applied_alike r A B ok at (unary op w))
       value_alike (Chain at first links) = bind r A B ok (value_alike first) (chained_alike links)
@@ -66,7 +64,7 @@ module _ {C D S T : Type 0} (r : Relation C D S T) (A : Ops C S) (B : Ops D T) (
 
       pub place_alike : (x : CoreExpr) → AlikePlaced r (place_in A tree locals deeper x) (place_in B tree locals deeper' x)
       place_alike (Path at root steps) =
-          is.placed_alike r A B ok tree locals (number_in locals root.text) (is.found_alike r A B ok tree locals root steps (indices_alike (type_of A tree locals root) steps))
+          is.placed_alike r A B ok (number_in locals root.text) (is.found_alike r A B ok locals tree root steps (indices_alike (type_of locals root) steps))
       place_alike (Number at z) = tt
       place_alike (Truth at b) = tt
       place_alike (Calls at c) = tt
@@ -80,9 +78,9 @@ module _ {C D S T : Type 0} (r : Relation C D S T) (A : Ops C S) (B : Ops D T) (
 
       pub call_alike : (c : CoreCall) → Alike r (call A tree locals deeper c) (call B tree locals deeper' c)
       call_alike (CallOf root steps at given) =
-          bind r A B ok (is.callee_alike r A B ok tree locals deeper deeper' down root steps (is.found_alike r A B ok tree locals root steps (indices_alike (type_of A tree locals root) steps))) (λ who.
-          is.call_by_alike r A B ok tree locals deeper deeper' down who (parts_alike given) _ _ (λ f captures body.
-          args_alike given body.params (passed_captures captures) _ _ (is.entered_alike r A B ok tree locals deeper deeper' down at f body)))
+          bind r A B ok (is.callee_alike r A B ok tree (number_in locals root.text) root steps (is.found_alike r A B ok locals tree root steps (indices_alike (type_of locals root) steps))) (λ who.
+          is.call_by_alike r A B ok tree who (parts_alike given) _ _ (λ f captures body.
+          args_alike given body.params (passed_captures captures) _ _ (is.entered_alike r A B ok deeper deeper' down at f body)))
 
       pub parts_alike : (given : CoreArgs) → Alike r (parts A tree locals deeper given) (parts B tree locals deeper' given)
       parts_alike NoArgs = pure_alike r A B ok []
@@ -95,24 +93,24 @@ module _ {C D S T : Type 0} (r : Relation C D S T) (A : Ops C S) (B : Ops D T) (
       args_alike NoArgs (p ∷ params) ps f g go = stuck_alike r A B ok Kinds
       args_alike (ValueArg x rest) [] ps f g go = stuck_alike r A B ok Kinds
       args_alike (ValueArg x rest) (p ∷ params) ps f g go =
-          is.pass_value_alike r A B ok tree locals deeper deeper' down p.conv (place_in A tree locals deeper x) (place_in B tree locals deeper' x) (place_alike x) (value_alike x) _ _ (λ a.
+          is.pass_value_alike r A B ok p.conv (place_in A tree locals deeper x) (place_in B tree locals deeper' x) (place_alike x) (value_alike x) _ _ (λ a.
           args_alike rest params (ps ++ a ∷ []) f g go)
       args_alike (RefArg at root steps rest) [] ps f g go = stuck_alike r A B ok Kinds
       args_alike (RefArg at root steps rest) (p ∷ params) ps f g go =
-          is.pass_place_alike r A B ok tree locals deeper deeper' down p.conv (is.found_alike r A B ok tree locals root steps (indices_alike (type_of A tree locals root) steps)) _ _ (λ a.
+          is.pass_place_alike r A B ok p.conv (is.found_alike r A B ok locals tree root steps (indices_alike (type_of locals root) steps)) _ _ (λ a.
           args_alike rest params (ps ++ a ∷ []) f g go)
 
       pub child_alike : (c : CoreCall) → Alike r (child A tree locals deeper c) (child B tree locals deeper' c)
       child_alike (CallOf root steps at given) =
-          bind r A B ok (is.callee_alike r A B ok tree locals deeper deeper' down root steps (is.found_alike r A B ok tree locals root steps (indices_alike (type_of A tree locals root) steps))) (λ who.
-          is.child_by_alike r A B ok tree locals deeper deeper' down who _ _ (λ f captures body. own_values_alike given body.params (passed_captures captures)))
+          bind r A B ok (is.callee_alike r A B ok tree (number_in locals root.text) root steps (is.found_alike r A B ok locals tree root steps (indices_alike (type_of locals root) steps))) (λ who.
+          is.child_by_alike r A B ok tree who _ _ (λ f captures body. own_values_alike given body.params (passed_captures captures)))
 
       pub own_values_alike : (given : CoreArgs) (params : List CoreParam) (ps : List Passed) → Alike r (own_values A tree locals deeper given params ps) (own_values B tree locals deeper' given params ps)
       own_values_alike NoArgs [] ps = pure_alike r A B ok ps
       own_values_alike NoArgs (p ∷ params) ps = stuck_alike r A B ok Kinds
       own_values_alike (ValueArg x rest) [] ps = stuck_alike r A B ok Kinds
       own_values_alike (ValueArg x rest) (p ∷ params) ps =
-          bind r A B ok (is.own_value_alike r A B ok tree locals deeper deeper' down p.conv (place_in A tree locals deeper x) (place_in B tree locals deeper' x) (place_alike x) (value_alike x)) (λ a.
+          bind r A B ok (is.own_value_alike r A B ok p.conv (place_in A tree locals deeper x) (place_in B tree locals deeper' x) (place_alike x) (value_alike x)) (λ a.
           own_values_alike rest params (ps ++ a ∷ []))
       own_values_alike (RefArg at root steps rest) params ps = stuck_alike r A B ok Kinds
 
@@ -124,16 +122,16 @@ module _ {C D S T : Type 0} (r : Relation C D S T) (A : Ops C S) (B : Ops D T) (
       statements_alike (StmtOf x rest) = bind r A B ok (ok.pays 1 (first_token x)) (λ paid. statement_alike x _ _ (statements_alike rest))
 
       pub statement_alike : (x : CoreStmt) (f : Run C S Flow) (g : Run D T Flow) → Alike r f g → Alike r (statement A tree locals deeper x f) (statement B tree locals deeper' x g)
-      statement_alike (Var at name t) f g go = bind r A B ok (is.declared_alike r A B ok tree locals name (holes tree t)) (λ done. go)
-      statement_alike (VarWith at name t x) f g go = bind r A B ok (value_alike x) (λ w. bind r A B ok (is.declared_alike r A B ok tree locals name w) (λ done. go))
+      statement_alike (Var at name t) f g go = bind r A B ok (is.declared_alike r A B ok locals name (holes tree t)) (λ done. go)
+      statement_alike (VarWith at name t x) f g go = bind r A B ok (value_alike x) (λ w. bind r A B ok (is.declared_alike r A B ok locals name w) (λ done. go))
       statement_alike (Let at name t x) f g go =
-          is.bound_alike r A B ok tree locals name (place_in A tree locals deeper x) (place_in B tree locals deeper' x) (place_alike x) (value_alike x) go
+          is.bound_alike r A B ok locals name (place_in A tree locals deeper x) (place_in B tree locals deeper' x) (place_alike x) (value_alike x) go
       statement_alike (Inout at name t root steps) f g go =
-          bind r A B ok (is.found_alike r A B ok tree locals root steps (indices_alike (type_of A tree locals root) steps)) (λ a.
-          bind r A B ok (is.local_alike r A B ok tree locals name) (λ n. ok.under Writes n a.0 f g go))
+          bind r A B ok (is.found_alike r A B ok locals tree root steps (indices_alike (type_of locals root) steps)) (λ a.
+          bind r A B ok (is.local_alike r A B ok locals name) (λ n. ok.under Writes n a.0 f g go))
       statement_alike (Assign at root steps x) f g go =
           bind r A B ok (value_alike x) (λ w.
-          bind r A B ok (is.found_alike r A B ok tree locals root steps (indices_alike (type_of A tree locals root) steps)) (λ a. bind r A B ok (ok.write a.0 w) (λ done. go)))
+          bind r A B ok (is.found_alike r A B ok locals tree root steps (indices_alike (type_of locals root) steps)) (λ a. bind r A B ok (ok.write a.0 w) (λ done. go)))
       statement_alike (If at branches) f g go = bind r A B ok (choices_alike branches) (unless_alike r A B ok go)
       statement_alike (While at test body) f g go = bind r A B ok (is.repeated_alike r A B ok at (value_alike test) (block_alike body)) (unless_alike r A B ok go)
       statement_alike (Return at) f g go = pure_alike r A B ok (Some (Fields Nil))
@@ -143,8 +141,8 @@ module _ {C D S T : Type 0} (r : Relation C D S T) (A : Ops C S) (B : Ops D T) (
           bind r A B ok (value_alike budget) (λ k.
           bind r A B ok (child_alike c) (λ what.
           bind r A B ok (is.number_alike r A B ok k) (λ z.
-          bind r A B ok (is.local_alike r A B ok tree locals name) (λ h. bind r A B ok (is.spawned_alike r A B ok tree locals deeper deeper' down h word z what) (λ done. go)))))
-      statement_alike (AwaitsAlone at name) f g go = bind r A B ok (is.local_alike r A B ok tree locals name) (λ h. bind r A B ok (ok.await h) (λ w. go))
+          bind r A B ok (is.local_alike r A B ok locals name) (λ h. bind r A B ok (is.spawned_alike r A B ok deeper deeper' down h word z what) (λ done. go)))))
+      statement_alike (AwaitsAlone at name) f g go = bind r A B ok (is.local_alike r A B ok locals name) (λ h. bind r A B ok (ok.await h) (λ w. go))
       statement_alike (CallsAlone at c) f g go = bind r A B ok (call_alike c) (λ w. go)
       statement_alike (Bare at b) f g go = bind r A B ok (block_alike b) (unless_alike r A B ok go)
 
@@ -153,7 +151,7 @@ module _ {C D S T : Type 0} (r : Relation C D S T) (A : Ops C S) (B : Ops D T) (
       choices_alike (Else b) = block_alike b
       choices_alike (BranchOf test body rest) = is.chosen_alike r A B ok (value_alike test) (block_alike body) (choices_alike rest)
 
-  module _ (deeper : Option (ℕ → Run C S Flow)) (deeper' : Option (ℕ → Run D T Flow)) (down : AlikeDeeper r deeper deeper') where
+  module _ (deeper : Deeper C S) (deeper' : Deeper D T) (down : AlikeDeeper r deeper deeper') where
     body_alike : (b : Option CoreBody) → Alike r (body_by A tree deeper b) (body_by B tree deeper' b)
     body_alike None = stuck_alike r A B ok Kinds
     body_alike (Some b) = counted_alike r A B ok (length (locals_of b)) (bind r A B ok (block_alike (locals_of b) deeper deeper' down b.block) (is.ended_alike r A B ok b.result))

@@ -1,13 +1,13 @@
 -- Tasks only go on.
-use Rattle.std.proofs.Common.{◌≡◌, ◌≤◌, ◌⊎◌, inl, inr, ℕ, ◌-◌, Bool, true, false, nat_le, if◌then◌else◌, List, [], ◌++◌, Option, Some, None, IfSome, refl, sym, subst, ◌∙◌, ap, arith}
+use Rattle.std.proofs.Common.{◌≡◌, ◌≤◌, inl, inr, ℕ, ◌-◌, Bool, true, false, nat_le, if◌then◌else◌, List, [], ◌++◌, Option, Some, None, IfSome, refl, sym, subst, ◌∙◌, ap, arith}
 use Rattle.std.proofs.lemmas.List.{append_assoc, append-nil}
 use Rattle.hv_tree.specs.declared.place.Place.{Place}
 use Rattle.hv_tree.specs.Core.{Core}
-use Rattle.hv_copying.specs.Node.{Node, used}
-use Rattle.hv_copying.specs.Run.{Task, Res, Is, Trap, Spent, Stuck, Now, Run, Flow, pay, say}
+use Rattle.hv_copying.specs.Node.{used}
+use Rattle.hv_copying.specs.Run.{Task, Res, Is, Trap, Spent, Stuck, Now, Flow, pay, say}
 use Rattle.hv_copying.specs.Copying.{Locals, copying}
 use Rattle.hv_copying.specs.Meaning.{run_of, node_by, node_of, root_by, start, below_root, main_in}
-use Rattle.hv_copying.specs.Alike.{Both, Relation, Ends, Alike, Related}
+use Rattle.hv_copying.specs.Alike.{Both, Relation, Ends, Alike}
 use Rattle.hv_copying.specs.Laws.{Extends, Follows, Leaves}
 use Rattle.hv_copying.proofs.Copies.{same_locals, Facts, copies_related}
 use Rattle.hv_copying.proofs.Generic.{related_runs}

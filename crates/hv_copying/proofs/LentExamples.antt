@@ -1,16 +1,16 @@
 -- Programs that lend, move, fill and capture, worked out by hand. A place is told where something is told of it.
-use Rattle.std.proofs.Common.{◌≡◌, ℕ, pos, true, false, List, [], ◌∷◌, Option, Some, None, codes, refl}
+use Rattle.std.proofs.Common.{◌≡◌, ℕ, pos, true, List, [], ◌∷◌, Some, None, codes, refl}
 use Rattle.hv_tree.specs.declared.types.Name.{Name}
 use Rattle.hv_tree.specs.declared.types.Conv.TheVariants as conv
 use Rattle.hv_tree.specs.declared.ast.Operator.TheVariants as operator
-use Rattle.hv_tree.specs.Core.{Core, CoreDecl, StructOf, CoreTy, NamedTy, CoreStmt, Print, Var, VarWith, Let, Inout, Assign, If, BranchOf, Else, NoElse, While, Return, ReturnWith, CallsAlone, CoreExpr, Number, Truth, Path, Array, Filled, Lambda, Prefix, Calls, CoreSteps, NoSteps, FieldStep, CallOf, CoreArgs, NoArgs, ValueArg, RefArg, FunToTy, TyOf, NoTys}
+use Rattle.hv_tree.specs.Core.{Core, CoreDecl, StructOf, NamedTy, CoreStmt, Print, Var, VarWith, Let, Inout, Assign, If, BranchOf, Else, While, Return, ReturnWith, CallsAlone, CoreExpr, Truth, Array, Lambda, Calls, NoSteps, FieldStep, CallOf, CoreArgs, NoArgs, ValueArg, RefArg, FunToTy, TyOf, NoTys}
 use Rattle.hv_value.specs.ValueTree as tree
 use Rattle.hv_copying.specs.declared.end.TrapKind.TheVariants as trap_kind
 use Rattle.hv_copying.specs.Node.{Trapped, SpentAt, Id}
-use Rattle.hv_copying.specs.Run.{◌>>=◌, pure, stuck, trap, spent, pay, say, with_reference, counted_from}
+use Rattle.hv_copying.specs.Run.{◌>>=◌, pure, stuck, trap, pay, say, with_reference, counted_from}
 use Rattle.hv_copying.specs.Blocks.{repeated}
 use Rattle.hv_copying.specs.Meaning.{node_of}
-use Rattle.hv_copying.proofs.Programs.{at, o, name_at, name, stmts, block, fun, main, program, param, int, ints, num, between, exprs, call, root, done, line, and_line, x, x_at, a, b, i, local, at_index}
+use Rattle.hv_copying.proofs.Programs.{at, o, name_at, name, block, fun, main, program, param, int, ints, num, between, exprs, call, root, done, line, x, a, b, i, local, at_index}
 
 abbrev number : ℕ → tree.ValueTree
 number n = tree.Number (pos n)

@@ -1,10 +1,10 @@
 -- Parts of the programs that the examples are about.
-use Rattle.std.proofs.Common.{ℕ, ℤ, pos, List, [], ◌∷◌, ◌++◌, Option, Some, None, codes}
+use Rattle.std.proofs.Common.{ℕ, pos, List, [], ◌∷◌, ◌++◌, Option, None, codes}
 use Rattle.hv_tree.specs.declared.place.Place.{Place}
 use Rattle.hv_tree.specs.declared.types.Name.{Name}
 use Rattle.hv_tree.specs.declared.types.Conv.{Conv}
 use Rattle.hv_tree.specs.declared.ast.Operator.{Operator}
-use Rattle.hv_tree.specs.Core.{Core, CoreDecl, FunOf, CoreFun, CoreParam, CoreTy, IntTy, BoolTy, ArrayTy, CoreExpr, Number, Path, Calls, Chain, CoreLinks, NoLinks, LinkOf, CoreExprs, NoExprs, ExprOf, CoreSteps, NoSteps, IndexStep, CoreCall, CallOf, CoreArgs, NoArgs, CoreBlock, BlockOf, CoreStmts, NoStmts, StmtOf, CoreStmt}
+use Rattle.hv_tree.specs.Core.{Core, CoreDecl, FunOf, CoreParam, CoreTy, IntTy, ArrayTy, CoreExpr, Number, Path, Chain, NoLinks, LinkOf, CoreExprs, NoExprs, ExprOf, CoreSteps, NoSteps, IndexStep, CoreCall, CallOf, CoreArgs, CoreBlock, BlockOf, CoreStmts, NoStmts, StmtOf, CoreStmt}
 use Rattle.hv_value.specs.ValueTree.{ValueTree, Fields, Nil}
 use Rattle.hv_value.specs.Texts.{text}
 use Rattle.hv_copying.specs.Node.{End, Done, Node, NodeOf, NoNodes}

@@ -1,14 +1,14 @@
 -- A task with more steps does the same, unless it is spent.
-use Rattle.std.proofs.Common.{◌≡◌, ◌≤◌, ◌⊎◌, inl, inr, ℕ, ◌+◌, ◌-◌, Bool, true, false, nat_le, if◌then◌else◌, List, [], ◌++◌, Option, Some, None, refl, sym, subst, ◌∙◌, ap, arith}
+use Rattle.std.proofs.Common.{◌≡◌, ◌≤◌, inr, ℕ, ◌+◌, ◌-◌, Bool, true, false, nat_le, if◌then◌else◌, List, ◌++◌, Option, Some, None, refl, sym, subst, ◌∙◌, ap, arith}
 use Rattle.std.proofs.lemmas.Bool.{le-leb, leb-true}
 use Rattle.hv_tree.specs.declared.place.Place.{Place}
 use Rattle.hv_tree.specs.Core.{Core}
 use Rattle.hv_copying.specs.Node.{End, Done, Trapped, SpentAt, Node, NodeOf, nodes, end_of}
-use Rattle.hv_copying.specs.Run.{Task, Res, Is, Trap, Spent, Stuck, Now, Run, Flow, pay, say}
+use Rattle.hv_copying.specs.Run.{Task, Res, Is, Trap, Spent, Stuck, Now, Flow, pay, say}
 use Rattle.hv_copying.specs.Copying.{Locals, copying}
 use Rattle.hv_copying.specs.Calls.{result_of}
 use Rattle.hv_copying.specs.Meaning.{run_of, node, node_by, node_of, root_by, start, below_root, main_in}
-use Rattle.hv_copying.specs.Alike.{Both, Relation, Ends, Alike, Related}
+use Rattle.hv_copying.specs.Alike.{Both, Relation, Ends, Alike}
 use Rattle.hv_copying.specs.Laws.{is_spent}
 use Rattle.hv_copying.proofs.Both.{loose_spent}
 use Rattle.hv_copying.proofs.Copies.{same_locals, Facts, copies_related}

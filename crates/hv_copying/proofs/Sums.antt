@@ -1,13 +1,12 @@
 -- Programs that print sums are safe.
-use Rattle.std.proofs.Common.{◌≡◌, ℕ, ℤ, ◌+ℤ◌, ◌-ℤ◌, ◌*ℤ◌, sym, Bool, true, false, ◌&&◌, ◌==◌, if◌then◌else◌, List, [], ◌∷◌, ◌++◌, Option, Some, None, option_and_then, is_some, codes, refl, ap, subst, ◌∙◌, arith, nat_le, length}
+use Rattle.std.proofs.Common.{◌≡◌, ℕ, ℤ, ◌+ℤ◌, ◌-ℤ◌, ◌*ℤ◌, sym, Bool, true, false, ◌&&◌, ◌==◌, if◌then◌else◌, List, [], ◌∷◌, ◌++◌, Option, Some, None, option_and_then, is_some, codes, refl, ap, subst, ◌∙◌, nat_le, length}
 use Rattle.std.proofs.lemmas.Bool.{and_parts, eq-eqb}
 use Rattle.std.specs.Str.{bytes_eq}
 use Rattle.hv_tree.specs.declared.place.Place.{Place}
 use Rattle.hv_tree.specs.declared.ast.Operator.{Operator}
 use Rattle.hv_tree.specs.declared.ast.Operator.TheVariants as operator
 use Rattle.hv_tree.specs.Core.{Core, CoreDecl, StructOf, FunOf, CoreFun, CoreTy, CoreExpr, Number, Truth, Path, Calls, Awaits, Array, Filled, Count, Lambda, Prefix, Chain, CoreLinks, NoLinks, LinkOf, CoreBlock, BlockOf, CoreStmts, NoStmts, StmtOf, CoreStmt, Print, Var, VarWith, Let, Inout, Assign, If, While, Return, ReturnWith, Task, AwaitsAlone, CallsAlone, Bare}
-use Rattle.hv_rules.specs.Locals.{Local, CoreBody, fun_body, locals_of}
-use Rattle.hv_rules.specs.Types.{fun_in}
+use Rattle.hv_rules.specs.Locals.{Local, fun_body, locals_of}
 use Rattle.hv_rules.specs.Sites.{bodies_of, lambdas_at, sites_of_body}
 use Rattle.hv_rules.specs.Events.{end_of}
 use Rattle.hv_value.specs.ValueTree.{ValueTree}
@@ -16,13 +15,13 @@ use Rattle.hv_value.specs.Operators.{Given, Gives, Overflow, in_range}
 use Rattle.hv_value.specs.Operators as op
 use Rattle.hv_value.specs.Texts.{text}
 use Rattle.hv_copying.specs.declared.end.TrapKind.TheVariants as trap_kind
-use Rattle.hv_copying.specs.Run.{Res, Is, Trap, Spent, Stuck, after, Now, Run, Flow, Kinds, ◌>>=◌, pure, trap, pay, say, counted_from}
+use Rattle.hv_copying.specs.Run.{Res, Is, Trap, Spent, Stuck, after, Now, Run, Flow, ◌>>=◌, pure, trap, pay, say, counted_from}
 use Rattle.hv_copying.specs.Ops.{Ops}
 use Rattle.hv_copying.specs.Operations.{given, applied, binary, decides}
 use Rattle.hv_copying.specs.Blocks.{first_token}
 use Rattle.hv_copying.specs.Places.{body_number, number_from}
-use Rattle.hv_copying.specs.Calls.{ended}
-use Rattle.hv_copying.specs.Evaluate.{value, chained, block, statements, statement, body_run, activations}
+use Rattle.hv_copying.specs.Calls.{Deeper, ended}
+use Rattle.hv_copying.specs.Evaluate.{value, chained, block, statements, statement, activations}
 use Rattle.hv_copying.specs.Copying.{Locals, copying}
 use Rattle.hv_copying.specs.Meaning.{run_of, node_by, node_of, root_by, start, below_root, main_in, IsSafe}
 use Rattle.hv_copying.specs.Sums.{is_sign, is_sum, are_sums, prints_sum, print_sums, block_prints, no_params, no_result, main_prints, decls_print, PrintsSums}
@@ -76,7 +75,7 @@ IsNumber w = (z : ℤ) × (w ≡ v.Number z)
 abbrev FallsThrough : Flow → Type 0
 FallsThrough flow = flow ≡ None
 
-module _ {C S : Type 0} (o : Ops C S) (tree : Core) (locals : List Local) (deeper : Option (ℕ → Run C S Flow)) where
+module _ {C S : Type 0} (o : Ops C S) (tree : Core) (locals : List Local) (deeper : Deeper C S) where
   number_goes : (at : Place) (z : ℤ) → Goes {C = C} {S = S} IsNumber (given at (op.number z))
   number_goes at z = by_range (in_range z)
     where

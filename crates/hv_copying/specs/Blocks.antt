@@ -1,14 +1,15 @@
 -- Statements over the runs of their parts. A statement is given the rest of its block, which runs while its binding stands.
-use Rattle.std.specs.Prelude.{ℕ, zero, suc, Bool, true, false, if◌then◌else◌, List, Option, Some, None}
+use Rattle.std.specs.Prelude.{ℕ, zero, suc, if◌then◌else◌, List, Some, None}
 use Rattle.hv_tree.specs.declared.place.Place.{Place}
 use Rattle.hv_tree.specs.declared.types.Name.{Name}
-use Rattle.hv_tree.specs.Core.{Core, CoreStmt, Var, VarWith, Let, Inout, Assign, If, While, Return, ReturnWith, Print, Task, AwaitsAlone, CallsAlone, Bare}
+use Rattle.hv_tree.specs.Core.{CoreStmt, Var, VarWith, Let, Inout, Assign, If, While, Return, ReturnWith, Print, Task, AwaitsAlone, CallsAlone, Bare}
 use Rattle.hv_rules.specs.Locals.{Local}
 use Rattle.hv_value.specs.ValueTree.{ValueTree}
 use Rattle.hv_copying.specs.Run.{Run, Flow, ◌>>=◌, pure, spent, pay, unless_left}
-use Rattle.hv_copying.specs.Ops.{Spot, Mode, Reads, Ops}
+use Rattle.hv_copying.specs.Ops.{Reads, Ops}
 use Rattle.hv_copying.specs.Operations.{truth}
 use Rattle.hv_copying.specs.Places.{local, declared}
+use Rattle.hv_copying.specs.Calls.{Placed}
 
 -- the place of the first token
 abbrev pub first_token : CoreStmt → Place
@@ -41,6 +42,6 @@ unfoldable pub repeated : {C S : Type 0} → Place → Run C S ValueTree → Run
 repeated at test body n c s = turns (suc s.task.steps) at test body n c s
 
 -- a binding over a place reads it there; any other value is the binding's own
-abbrev pub bound : {C S : Type 0} → Ops C S → Core → List Local → Name → Option (Run C S (Spot × ValueTree)) → Run C S ValueTree → Run C S Flow → Run C S Flow
-bound o tree locals name (Some place) x go = place >>= (λ f. local o tree locals name >>= (λ r. o.under Reads r f.0 go))
-bound o tree locals name None x go = x >>= (λ v. declared o tree locals name v >>= (λ done. go))
+abbrev pub bound : {C S : Type 0} → Ops C S → List Local → Name → Placed C S → Run C S ValueTree → Run C S Flow → Run C S Flow
+bound o locals name (Some place) x go = place >>= (λ f. local locals name >>= (λ r. o.under Reads r f.0 go))
+bound o locals name None x go = x >>= (λ v. declared o locals name v >>= (λ done. go))

@@ -1,12 +1,11 @@
 -- The kind of state in which each access is a copy, which is written back when it ends.
 use Rattle.std.specs.Prelude.{ℕ, zero, suc, List, [], ◌∷◌, get_or, Option, Some, None}
 use Rattle.hv_tree.specs.declared.place.Place.{Place}
-use Rattle.hv_rules.specs.declared.path.StaticStep.{StaticStep}
 use Rattle.hv_value.specs.ValueTree.{ValueTree, Hole}
 use Rattle.hv_value.specs.Places.{get, put}
 use Rattle.hv_value.specs.Walk.{Reached, Reaches, Outside, Lost, walk}
 use Rattle.hv_copying.specs.declared.end.TrapKind.TheVariants as trap_kind
-use Rattle.hv_copying.specs.Run.{Res, Is, Trap, Stuck, after, Now, Run, Flow, Holes, Tasks, pure, stuck, trap}
+use Rattle.hv_copying.specs.Run.{Res, Is, Stuck, after, Now, Run, Holes, Tasks, pure, stuck, trap}
 use Rattle.hv_copying.specs.Ops.{Target, Spot, Mode, Reads, Writes, Sets, Passed, Value, Lent, Ops}
 
 -- the locals of the body that runs, each a tree with holes, and the children under its handles

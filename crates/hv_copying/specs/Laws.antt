@@ -1,6 +1,6 @@
 -- What laws say of runs.
-use Rattle.std.specs.Prelude.{◌≡◌, ◌≤◌, ℕ, Bool, true, false, List, ◌++◌}
-use Rattle.hv_copying.specs.Node.{Id, End, Done, Trapped, SpentAt, Node}
+use Rattle.std.specs.Prelude.{◌≡◌, ◌≤◌, Bool, true, false, List, ◌++◌}
+use Rattle.hv_copying.specs.Node.{End, Done, Trapped, SpentAt}
 use Rattle.hv_copying.specs.Run.{Task, Res, Is, Trap, Spent, Stuck, Now}
 
 -- the old list is the front of the new one

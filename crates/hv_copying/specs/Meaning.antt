@@ -1,7 +1,6 @@
 -- The meaning of a program: what its root does with so many steps.
-use Rattle.std.specs.Prelude.{◌≡◌, ℕ, ◌-◌, true, List, [], ◌∷◌, Option, Some, None, option_and_then, is_some, codes}
-use Rattle.hv_tree.specs.declared.place.Place.{Place}
-use Rattle.hv_tree.specs.Core.{Core, CoreFun}
+use Rattle.std.specs.Prelude.{◌≡◌, ℕ, ◌-◌, true, [], ◌∷◌, Option, Some, None, option_and_then, is_some, codes}
+use Rattle.hv_tree.specs.Core.{Core}
 use Rattle.hv_rules.specs.Types.{fun_in}
 use Rattle.hv_rules.specs.Sites.{bodies_of}
 use Rattle.hv_copying.specs.Node.{Id, End, Done, Trapped, SpentAt, Node, NodeOf, nodes}

@@ -1,9 +1,9 @@
 -- Operators, and values of the kind that is asked for.
-use Rattle.std.specs.Prelude.{ℕ, ℤ, pos, negsuc, Bool, true, false, not, Option, Some, None}
+use Rattle.std.specs.Prelude.{ℕ, ℤ, pos, negsuc, Bool, false, not, Option, Some, None}
 use Rattle.hv_tree.specs.declared.place.Place.{Place}
 use Rattle.hv_tree.specs.declared.ast.Operator.{Operator}
 use Rattle.hv_tree.specs.declared.ast.Operator.TheVariants as operator
-use Rattle.hv_value.specs.ValueTree.{ValueTree, Number, Truth, Parts, Closure}
+use Rattle.hv_value.specs.ValueTree.{ValueTree, Number, Truth}
 use Rattle.hv_value.specs.Operators.{Given, Gives, Overflow, DivZero, BadLength, TooLong, of_numbers, of_number, of_truth, add, subtract, multiply, divide, remainder, negate, equal, unequal, less, at_most, greater, at_least, opposite, filled}
 use Rattle.hv_value.specs.Sizes.{fill_cost}
 use Rattle.hv_copying.specs.declared.end.TrapKind.TheVariants as trap_kind

@@ -3,7 +3,7 @@ use Rattle.std.specs.Prelude.{◌≡◌, Bool, true, false, ◌&&◌, List, [], 
 use Rattle.std.specs.Str.{bytes_eq}
 use Rattle.hv_tree.specs.declared.ast.Operator.{Operator}
 use Rattle.hv_tree.specs.declared.ast.Operator.TheVariants as operator
-use Rattle.hv_tree.specs.Core.{Core, CoreDecl, StructOf, FunOf, CoreFun, CoreParam, CoreTy, CoreExpr, Number, Chain, CoreLinks, NoLinks, LinkOf, CoreBlock, BlockOf, CoreStmts, NoStmts, StmtOf, CoreStmt, Print}
+use Rattle.hv_tree.specs.Core.{Core, CoreDecl, FunOf, CoreFun, CoreParam, CoreTy, CoreExpr, Number, Chain, CoreLinks, NoLinks, LinkOf, CoreBlock, BlockOf, CoreStmts, NoStmts, StmtOf, CoreStmt, Print}
 
 abbrev pub is_sign : Operator → Bool
 is_sign operator.Add = true
