@@ -5,6 +5,8 @@ pub mod Copies
 pub mod GoingOn
 pub mod Richer
 pub mod Sums
+-- runs in another order of writing
+pub mod RunLaws
 -- examples
 mod Programs
 mod Examples

@@ -32,12 +32,17 @@ Ends r c d t a b = r.rel c d a.0 b.0 × r.keeps c d t b.0 × (a.1 ≡ b.1)
 pub record Alike {C D S T X : Type 0} (r : Relation C D S T) (p : Run C S X) (q : Run D T X) : Type 0 where
   pub alike : (n : ℕ) (c : C) (d : D) (s : Now S) (t : Now T) → r.rel c d s t → Both r.loose (r.halts c d t) (Ends r c d t) (p n c s) (q n d t)
 
-pub record Related {C D S T : Type 0} (r : Relation C D S T) (a : Ops C S) (b : Ops D T) : Type 0 where
+-- what runs keep is kept on and on, and a halt is as one of a run that began earlier
+pub record Kept {C D S T : Type 0} (r : Relation C D S T) : Type 0 where
   pub still : (c : C) (d : D) (t : Now T) → r.keeps c d t t
   pub chain : (c : C) (d : D) (t t1 t2 : Now T) → r.keeps c d t t1 → r.keeps c d t1 t2 → r.keeps c d t t2
   pub later : (c : C) (d : D) (t t1 : Now T) (x y : Task) → r.keeps c d t t1 → r.halts c d t1 x y → r.halts c d t x y
   pub halted : (c : C) (d : D) (s : Now S) (t : Now T) → r.rel c d s t → (s.task.id ≡ t.task.id) × r.halts c d t s.task t.task
+  -- a loop makes as many turns on both sides, or more on the right
   pub limit : (c : C) (d : D) (s : Now S) (t : Now T) → r.rel c d s t → (s.task.steps ≡ t.task.steps) ⊎ (r.loose × (s.task.steps ≤ t.task.steps))
+
+pub record Related {C D S T : Type 0} (r : Relation C D S T) (a : Ops C S) (b : Ops D T) : Type 0 where
+  pub kept : Kept r
   pub pays : (cost : ℕ) (at : Place) → Alike r (pay cost at) (pay cost at)
   pub says : (bytes : List ℕ) → Alike r (say bytes) (say bytes)
   pub look : (x : Target) → Alike r (a.look x) (b.look x)

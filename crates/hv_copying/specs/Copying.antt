@@ -5,7 +5,7 @@ use Rattle.hv_value.specs.ValueTree.{ValueTree, Hole}
 use Rattle.hv_value.specs.Places.{get, put}
 use Rattle.hv_value.specs.Walk.{Reached, Reaches, Outside, Lost, walk}
 use Rattle.hv_copying.specs.declared.end.TrapKind.TheVariants as trap_kind
-use Rattle.hv_copying.specs.Run.{Res, Is, Stuck, after, Now, Run, Holes, Tasks, pure, stuck, trap}
+use Rattle.hv_copying.specs.Run.{Run, Holes, Tasks, ◌>>=◌, pure, stuck, trap, known, mine, become}
 use Rattle.hv_copying.specs.Ops.{Target, Spot, Mode, Reads, Writes, Sets, Passed, Value, Lent, Ops}
 
 -- the locals of the body that runs, each a tree with holes, and the children under its handles
@@ -26,9 +26,6 @@ change_at (u ∷ us) (suc x) t = u ∷ change_at us x t
 abbrev pub with_tree : Locals → ℕ → ValueTree → Locals
 with_tree e x t = record e { trees = change_at e.trees x t }
 
-abbrev pub with_own : Now Locals → Locals → Now Locals
-with_own s e = record s { own = e }
-
 -- ---- places
 
 -- where the indices lead
@@ -40,25 +37,28 @@ arrived t Lost = stuck Holes
 abbrev pub at_spot : Locals → Spot → Option ValueTree
 at_spot e p = get (tree_at e p.root) p.path
 
-abbrev pub if_there : {A : Type 0} → Option ValueTree → (ValueTree → Res A) → Res A
-if_there None go = Stuck Holes
-if_there (Some u) go = go u
-
+-- the locals with another tree at a place
 abbrev pub written : Locals → Spot → ValueTree → Locals
 written e p t = with_tree e p.root (put (tree_at e p.root) p.path t)
+
+-- ---- accesses
+
+-- the reference stands for a copy of the place
+abbrev pub opened : {C : Type 0} → ℕ → Spot → Run C Locals (Unit {0})
+opened r p = mine >>= (λ e. known Holes (at_spot e p) >>= (λ t. become (with_tree e r t)))
 
 -- a reference that is closed stands for nothing
 abbrev pub without : Locals → ℕ → Locals
 without e r = with_tree e r Hole
 
--- what stands under the reference goes back to its place, which must be there
-abbrev pub write_back : ℕ → Spot → Now Locals → Res (Now Locals)
-write_back r p s = if_there (at_spot s.own p) (λ old. Is (with_own s (without (written s.own p (tree_at s.own r)) r)))
+-- what it stands for goes back to its place, which must be there
+abbrev pub write_back : {C : Type 0} → ℕ → Spot → Run C Locals (Unit {0})
+write_back r p = mine >>= (λ e. known Holes (at_spot e p) >>= (λ old. become (without (written e p (tree_at e r)) r)))
 
-abbrev pub closed : Mode → ℕ → Spot → Now Locals → Res (Now Locals)
-closed Reads r p s = Is (with_own s (without s.own r))
-closed Writes r p s = write_back r p s
-closed Sets r p s = write_back r p s
+abbrev pub closed : {C : Type 0} → Mode → ℕ → Spot → Run C Locals (Unit {0})
+closed Reads r p = mine >>= (λ e. become (without e r))
+closed Writes r p = write_back r p
+closed Sets r p = write_back r p
 
 -- ---- calls
 
@@ -70,6 +70,10 @@ abbrev pub callee_trees : Locals → List Passed → List ValueTree
 callee_trees e [] = []
 callee_trees e (a ∷ more) = first_tree e a ∷ callee_trees e more
 
+-- a body begins with what it is entered with, and no handle
+abbrev pub entering : Locals → List Passed → Locals
+entering e given = record { trees = callee_trees e given; handles = [] }
+
 -- each lent reference takes what its parameter was at the end; the parameters are counted from i
 abbrev pub returned : ℕ → Locals → List Passed → Locals → Locals
 returned i e [] callee = e
@@ -80,15 +84,13 @@ returned i e (Lent r ∷ more) callee = returned (suc i) (with_tree e r (tree_at
 
 abbrev pub copying : Ops (Unit {0}) Locals
 copying = record {
-  look = λ t n c s. arrived t (walk t.links (tree_at s.own t.root)) n c s;
-  write = λ p t n c s. if_there (at_spot s.own p) (λ old. Is (with_own s (written s.own p t), tt));
-  under = λ mode r p go n c s.
-      if_there (at_spot s.own p) (λ t.
-      after (go n c (with_own s (with_tree s.own r t))) (λ e.
-      after (closed mode r p e.0) (λ u. Is (u, e.1))));
-  call = λ size given go n c s.
-      after (go n c (with_own s (record { trees = callee_trees s.own given; handles = [] }))) (λ e.
-      Is (with_own e.0 (returned 0 s.own given e.0.own), e.1));
+  look = λ t. mine >>= (λ e. arrived t (walk t.links (tree_at e t.root)));
+  write = λ p t. mine >>= (λ e. known Holes (at_spot e p) >>= (λ old. become (written e p t)));
+  under = λ mode r p go. opened r p >>= (λ begun. go >>= (λ flow. closed mode r p >>= (λ done. pure flow)));
+  call = λ size given go.
+      mine >>= (λ e.
+      become (entering e given) >>= (λ begun.
+      go >>= (λ flow. mine >>= (λ callee. become (returned 0 e given callee) >>= (λ done. pure flow)))));
   spawn = λ h k size given go. stuck Tasks;
   await = λ h. stuck Tasks;
 }

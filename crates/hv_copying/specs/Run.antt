@@ -83,6 +83,13 @@ pay cost at n c s =
 unfoldable pub say : {C S : Type 0} → List ℕ → Run C S (Unit {0})
 say bytes n c s = Is (record s { task = record s.task { output = s.task.output ++ bytes } }, tt)
 
+-- the state as it is, and another one in its place
+unfoldable pub mine : {C S : Type 0} → Run C S S
+mine n c s = Is (s, s.own)
+
+unfoldable pub become : {C S : Type 0} → S → Run C S (Unit {0})
+become own n c s = Is (record s { own = own }, tt)
+
 -- goes on with the number of the next reference
 unfoldable pub with_reference : {C S A : Type 0} → (ℕ → Run C S A) → Run C S A
 with_reference p n c s = p n (suc n) c s
