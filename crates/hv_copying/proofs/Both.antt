@@ -3,7 +3,7 @@ use Rattle.std.proofs.Common.{inl, inr, ℕ, suc, Bool, true, false, if◌then�
 use Rattle.hv_tree.specs.declared.place.Place.{Place}
 use Rattle.hv_copying.specs.declared.end.TrapKind.{TrapKind}
 use Rattle.hv_copying.specs.Node.{Id}
-use Rattle.hv_copying.specs.Run.{Task, Cause, Res, Is, Trap, Spent, Stuck, after, Run, Flow, ◌>>=◌, pure, stuck, trap, spent, known, with_reference, counted_from, unless_left}
+use Rattle.hv_copying.specs.Run.{Task, Cause, Res, Is, Trap, Spent, Stuck, after, Run, Flow, and_then, ◌>>=◌, pure, stuck, trap, spent, known, with_reference, counted_from, unless_left}
 use Rattle.hv_copying.specs.Alike.{Both, Relation, Ends, Alike, Kept}
 
 pub both_weaken : {A B : Type 0} (L : Type 0) (H H' : Task → Task → Type 0) (R Q : A → B → Type 0) (x : Res A) (y : Res B) → ((t t' : Task) → H t t' → H' t t') → ((a : A) (b : B) → R a b → Q a b) → Both L H R x y → Both L H' Q x y
@@ -46,7 +46,7 @@ both_after L H R Q (Spent at id t) (Stuck cause) f g h k = h
 
 module _ {C D S T : Type 0} (r : Relation C D S T) (ok : Kept r) where
   pub bind : {X Y : Type 0} {p : Run C S X} {q : Run D T X} {f : X → Run C S Y} {g : X → Run D T Y} → Alike r p q → ((x : X) → Alike r (f x) (g x)) → Alike r (p >>= f) (q >>= g)
-  unfolding ◌>>=◌
+  unfolding and_then
   bind {X} {Y} {p} {q} {f} {g} h k = record {
     alike = λ n c d s t e.
         both_after r.loose (r.halts c d t) (Ends r c d t) (Ends r c d t) (p n c s) (q n d t) (λ a. f a.1 n c a.0) (λ b. g b.1 n d b.0) (h.alike n c d s t e) (λ a b i.

@@ -1,6 +1,6 @@
 -- Laws of runs one after another.
 use Rattle.std.proofs.Common.{◌≡◌, ℕ, Bool, true, false, if◌then◌else◌, Option, Some, None, refl, ap}
-use Rattle.hv_copying.specs.Run.{Res, Is, Trap, Spent, Stuck, after, Now, Run, Flow, ◌>>=◌, pure, unless_left, with_reference}
+use Rattle.hv_copying.specs.Run.{Res, Is, Trap, Spent, Stuck, after, Now, Run, Flow, and_then, ◌>>=◌, pure, unless_left, with_reference}
 
 after_after : {A B X : Type 0} (x : Res A) (f : A → Res B) (g : B → Res X) → after (after x f) g ≡ after x (λ a. after (f a) g)
 after_after (Is a) f g = refl
@@ -15,15 +15,15 @@ after_is (Spent at id t) = refl
 after_is (Stuck cause) = refl
 
 pub bind_assoc : {C S X Y Z : Type 0} (p : Run C S X) (f : X → Run C S Y) (g : Y → Run C S Z) → (p >>= f) >>= g ≡ p >>= (λ x. f x >>= g)
-unfolding ◌>>=◌
+unfolding and_then
 bind_assoc p f g = λ i n c s. after_after (p n c s) (λ r. f r.1 n c r.0) (λ r. g r.1 n c r.0) i
 
 pub pure_then : {C S X Y : Type 0} (x : X) (f : X → Run C S Y) → pure x >>= f ≡ f x
-unfolding ◌>>=◌ pure
+unfolding and_then pure
 pure_then x f = refl
 
 pub then_pure : {C S X : Type 0} (p : Run C S X) → p >>= pure ≡ p
-unfolding ◌>>=◌ pure
+unfolding and_then pure
 then_pure p = λ i n c s. after_is (p n c s) i
 
 -- the same first step, and the same from there on

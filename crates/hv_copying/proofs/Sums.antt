@@ -15,7 +15,7 @@ use Rattle.hv_value.specs.Operators.{Given, Gives, Overflow, in_range}
 use Rattle.hv_value.specs.Operators as op
 use Rattle.hv_value.specs.Texts.{text}
 use Rattle.hv_copying.specs.declared.end.TrapKind.TheVariants as trap_kind
-use Rattle.hv_copying.specs.Run.{Res, Is, Trap, Spent, Stuck, after, Now, Run, Flow, ◌>>=◌, pure, trap, pay, say, counted_from}
+use Rattle.hv_copying.specs.Run.{Res, Is, Trap, Spent, Stuck, after, Now, Run, Flow, and_then, ◌>>=◌, pure, trap, pay, say, counted_from}
 use Rattle.hv_copying.specs.Ops.{Ops}
 use Rattle.hv_copying.specs.Operations.{given, applied, binary, decides}
 use Rattle.hv_copying.specs.Blocks.{first_token}
@@ -43,7 +43,7 @@ meets_after P Q (Spent at id t) f h k = tt
 meets_after P Q (Stuck cause) f h k = absurd h
 
 bind : {C S X Y : Type 0} {P : X → Type 0} {Q : Y → Type 0} {p : Run C S X} {f : X → Run C S Y} → Goes P p → ((x : X) → P x → Goes Q (f x)) → Goes Q (p >>= f)
-unfolding ◌>>=◌
+unfolding and_then
 bind {P = P} {Q = Q} {p = p} {f = f} h k = record { goes = λ n c s. meets_after P Q (p n c s) (λ r. f r.1 n c r.0) (h.goes n c s) (λ r e. (k r.1 e).goes n c r.0) }
 
 pure_goes : {C S X : Type 0} {P : X → Type 0} (x : X) → P x → Goes {C = C} {S = S} P (pure x)

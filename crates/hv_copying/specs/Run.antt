@@ -51,10 +51,13 @@ Run C S A = ℕ → C → Now S → Res (Now S × A)
 abbrev pub Flow : Type 0
 Flow = Option ValueTree
 
-infixl 10 ◌>>=◌
 -- one step, and then another one that goes by what the first gave
-unfoldable pub ◌>>=◌ : {C S A B : Type 0} → Run C S A → (A → Run C S B) → Run C S B
-(p >>= f) n c s = after (p n c s) (λ r. f r.1 n c r.0)
+unfoldable pub and_then : {C S A B : Type 0} → Run C S A → (A → Run C S B) → Run C S B
+and_then p f n c s = after (p n c s) (λ r. f r.1 n c r.0)
+
+infixl 10 ◌>>=◌
+abbrev pub ◌>>=◌ : {C S A B : Type 0} → Run C S A → (A → Run C S B) → Run C S B
+p >>= f = and_then p f
 
 unfoldable pub pure : {C S A : Type 0} → A → Run C S A
 pure a n c s = Is (s, a)
