@@ -7,6 +7,7 @@ pub mod Richer
 pub mod Sums
 -- runs in another order of writing
 pub mod RunLaws
+pub mod InOrder
 -- examples
 mod Programs
 mod Examples

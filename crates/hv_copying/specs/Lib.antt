@@ -14,5 +14,7 @@ pub mod Meaning
 -- comparing kinds of state
 pub mod Alike
 pub mod Laws
+-- blocks as a loop goes through them
+pub mod InOrder
 -- programs that are safe as they stand
 pub mod Sums
