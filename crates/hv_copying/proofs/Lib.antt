@@ -8,6 +8,7 @@ pub mod Sums
 -- runs in another order of writing
 pub mod RunLaws
 pub mod InOrder
+pub mod ArgsInOrder
 -- examples
 mod Programs
 mod Examples
