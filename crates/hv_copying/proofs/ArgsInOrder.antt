@@ -10,12 +10,12 @@ use Rattle.hv_rules.specs.Sites.{bodies_of}
 use Rattle.hv_value.specs.ValueTree.{ValueTree, Parts}
 use Rattle.hv_value.specs.Holes.{emptied}
 use Rattle.hv_copying.specs.declared.end.TrapKind.{TrapKind}
-use Rattle.hv_copying.specs.Run.{Cause, Kinds, Now, Run, Flow, and_then, ◌>>=◌, pure, stuck, trap, known, pay, mine, become, with_reference, counted_from}
+use Rattle.hv_copying.specs.Run.{Cause, Kinds, Run, Flow, and_then, ◌>>=◌, pure, stuck, trap, known, pay, mine, become, with_reference, counted_from}
 use Rattle.hv_copying.specs.Ops.{Spot, Mode, Reads, Writes, Sets, Passed, Value, Lent}
 use Rattle.hv_copying.specs.Places.{type_of, found, moved}
-use Rattle.hv_copying.specs.Calls.{Placed, Deeper, passed_captures, if_deeper, lent, pass_value, pass_place, entered}
-use Rattle.hv_copying.specs.Evaluate.{value, indices, place_in, args, body_run, body_by, bodies_run, activations}
-use Rattle.hv_copying.specs.Copying.{Locals, opened, closed, without, write_back, copying}
+use Rattle.hv_copying.specs.Calls.{Placed, Deeper, passed_captures, lent, pass_value, pass_place, entered}
+use Rattle.hv_copying.specs.Evaluate.{value, indices, place_in, args, body_by, activations}
+use Rattle.hv_copying.specs.Copying.{Locals, opened, closed, without, copying}
 use Rattle.hv_copying.specs.InOrder.{Access, shut}
 use Rattle.hv_copying.specs.ArgsInOrder.{Given, Takes, Lends, value_given, place_given, Gathered, gathering, gathered, call_in_order}
 use Rattle.hv_copying.proofs.RunLaws.{bind_assoc, pure_then, then_pure, then_same, first_same}

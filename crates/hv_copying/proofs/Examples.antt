@@ -5,7 +5,7 @@ use Rattle.hv_tree.specs.Core.{Core, Print, VarWith, If, BranchOf, NoElse, CoreE
 use Rattle.hv_value.specs.ValueTree as tree
 use Rattle.hv_copying.specs.declared.end.TrapKind.TheVariants as trap_kind
 use Rattle.hv_copying.specs.Node.{Trapped, SpentAt, Id}
-use Rattle.hv_copying.specs.Run.{and_then, ◌>>=◌, mine, become, pure, trap, pay, say, counted_from}
+use Rattle.hv_copying.specs.Run.{and_then, mine, become, pure, trap, pay, say, counted_from}
 use Rattle.hv_copying.specs.Meaning.{node_of}
 use Rattle.hv_copying.proofs.Programs.{at, o, block, main, program, ints, num, between, exprs, root, done, line, and_line, a, at_index}
 

@@ -1,6 +1,6 @@
 -- Laws of runs one after another.
-use Rattle.std.proofs.Common.{◌≡◌, ℕ, Bool, true, false, if◌then◌else◌, Option, Some, None, refl, ap}
-use Rattle.hv_copying.specs.Run.{Res, Is, Trap, Spent, Stuck, after, Now, Run, Flow, and_then, ◌>>=◌, pure, unless_left, with_reference}
+use Rattle.std.proofs.Common.{◌≡◌, refl, ap}
+use Rattle.hv_copying.specs.Run.{Res, Is, Trap, Spent, Stuck, after, Run, and_then, ◌>>=◌, pure}
 
 after_after : {A B X : Type 0} (x : Res A) (f : A → Res B) (g : B → Res X) → after (after x f) g ≡ after x (λ a. after (f a) g)
 after_after (Is a) f g = refl

@@ -1,5 +1,5 @@
 -- The kind of state in which each access is a copy, which is written back when it ends.
-use Rattle.std.specs.Prelude.{ℕ, zero, suc, List, [], ◌∷◌, get_or, Option, Some, None}
+use Rattle.std.specs.Prelude.{ℕ, zero, suc, List, [], ◌∷◌, get_or, Option}
 use Rattle.hv_tree.specs.declared.place.Place.{Place}
 use Rattle.hv_value.specs.ValueTree.{ValueTree, Hole}
 use Rattle.hv_value.specs.Places.{get, put}

@@ -1,5 +1,5 @@
 -- Blocks again, as a loop goes through them: one statement after the other, with the accesses that are open in a list, the newest first.
-use Rattle.std.specs.Prelude.{ℕ, List, [], ◌∷◌, ◌++◌, Option, Some, None}
+use Rattle.std.specs.Prelude.{ℕ, List, [], ◌∷◌, ◌++◌, Some, None}
 use Rattle.hv_tree.specs.declared.types.Name.{Name}
 use Rattle.hv_tree.specs.Core.{Core, CoreStmts, NoStmts, StmtOf, CoreStmt, Var, VarWith, Let, Inout, Assign, If, While, Return, ReturnWith, Print, Task, AwaitsAlone, CallsAlone, Bare}
 use Rattle.hv_rules.specs.Locals.{Local}
