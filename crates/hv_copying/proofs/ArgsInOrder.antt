@@ -17,7 +17,7 @@ use Rattle.hv_copying.specs.Calls.{Placed, Deeper, passed_captures, lent, pass_v
 use Rattle.hv_copying.specs.Evaluate.{value, indices, place_in, args, body_by, activations}
 use Rattle.hv_copying.specs.Copying.{Locals, opened, closed, without, copying}
 use Rattle.hv_copying.specs.InOrder.{Access, shut}
-use Rattle.hv_copying.specs.ArgsInOrder.{Given, Takes, Lends, value_given, place_given, Gathered, gathering, gathered, call_in_order}
+use Rattle.hv_copying.specs.ArgsInOrder.{Argument, Takes, Lends, value_given, place_given, Gathered, gathering, gathered, call_in_order}
 use Rattle.hv_copying.proofs.RunLaws.{bind_assoc, pure_then, then_pure, then_same, first_same}
 
 abbrev Does : Type 0 → Type 0
@@ -82,7 +82,7 @@ free_shut (a ∷ more) flow = free_then (closed a.mode a.reference a.spot) _ (fr
 -- ---- one argument
 
 -- on from an argument in the nested form
-abbrev on : (Passed → Does Flow) → Given → Does Flow
+abbrev on : (Passed → Does Flow) → Argument → Does Flow
 on go (Takes a) = go a
 on go (Lends mode spot) = lent copying mode spot go
 
@@ -135,7 +135,7 @@ lent_on m mode spot go opens =
 
 module _ (tree : Core) (locals : List Local) (deeper : Deeper (Unit {0}) Locals) (go : List Passed → Does Flow) (free : (ps : List Passed) → Free (go ps)) where
   -- one argument, and the others by what is known of them
-  argument : (m : ℕ) (ps : List Passed) (opens : List Access) (p : Does Given) (nested : List Passed → Does Flow) (rest : ℕ → List Passed → List Access → Does Gathered) →
+  argument : (m : ℕ) (ps : List Passed) (opens : List Access) (p : Does Argument) (nested : List Passed → Does Flow) (rest : ℕ → List Passed → List Access → Does Gathered) →
       ((n : ℕ) (qs : List Passed) (others : List Access) → counted_from n (nested qs >>= shut others) ≡ rest n qs others >>= finish go) →
       counted_from m ((p >>= on (λ a. nested (ps ++ a ∷ []))) >>= shut opens) ≡ (counted_from m p >>= gathering m ps opens rest) >>= finish go
   argument m ps opens p nested rest h =
@@ -144,7 +144,7 @@ module _ (tree : Core) (locals : List Local) (deeper : Deeper (Unit {0}) Locals)
       ∙ (then_same (counted_from m p) _ _ each
       ∙ sym (bind_assoc (counted_from m p) (gathering m ps opens rest) (finish go))))
     where
-      each : (g : Given) → counted_from m (on (λ a. nested (ps ++ a ∷ [])) g >>= shut opens) ≡ gathering m ps opens rest g >>= finish go
+      each : (g : Argument) → counted_from m (on (λ a. nested (ps ++ a ∷ [])) g >>= shut opens) ≡ gathering m ps opens rest g >>= finish go
       each (Takes a) = h m (ps ++ a ∷ []) opens
       each (Lends mode spot) =
           lent_on m mode spot (λ a. nested (ps ++ a ∷ [])) opens

@@ -16,11 +16,11 @@ use Rattle.hv_copying.specs.Copying.{Locals, opened, copying}
 use Rattle.hv_copying.specs.InOrder.{Access, shut}
 
 -- what an argument comes to
-pub data Given : Type 0 where
-  Takes : Passed → Given
-  Lends : Mode → Spot → Given
+pub data Argument : Type 0 where
+  Takes : Passed → Argument
+  Lends : Mode → Spot → Argument
 
-abbrev pub value_given : Conv → Placed (Unit {0}) Locals → Run (Unit {0}) Locals ValueTree → Run (Unit {0}) Locals Given
+abbrev pub value_given : Conv → Placed (Unit {0}) Locals → Run (Unit {0}) Locals ValueTree → Run (Unit {0}) Locals Argument
 value_given conv.Let (Some place) x = place >>= (λ f. pure (Lends Reads f.0))
 value_given conv.Let None x = x >>= (λ v. pure (Takes (Value Reads v)))
 value_given conv.Sink (Some place) x = place >>= (λ f. moved copying f >>= (λ v. pure (Takes (Value Writes v))))
@@ -28,7 +28,7 @@ value_given conv.Sink None x = x >>= (λ v. pure (Takes (Value Writes v)))
 value_given conv.Inout place x = stuck Kinds
 value_given conv.Set place x = stuck Kinds
 
-abbrev pub place_given : Conv → Run (Unit {0}) Locals (Spot × ValueTree) → Run (Unit {0}) Locals Given
+abbrev pub place_given : Conv → Run (Unit {0}) Locals (Spot × ValueTree) → Run (Unit {0}) Locals Argument
 place_given conv.Inout place = place >>= (λ f. pure (Lends Writes f.0))
 place_given conv.Set place = place >>= (λ f. copying.write f.0 (emptied f.1) >>= (λ done. pure (Lends Sets f.0)))
 place_given conv.Let place = stuck Kinds
@@ -39,7 +39,7 @@ abbrev pub Gathered : Type 0
 Gathered = List Passed × List Access
 
 -- on from an argument, where m references are in use
-abbrev pub gathering : ℕ → List Passed → List Access → (ℕ → List Passed → List Access → Run (Unit {0}) Locals Gathered) → Given → Run (Unit {0}) Locals Gathered
+abbrev pub gathering : ℕ → List Passed → List Access → (ℕ → List Passed → List Access → Run (Unit {0}) Locals Gathered) → Argument → Run (Unit {0}) Locals Gathered
 gathering m ps opens rest (Takes a) = rest m (ps ++ a ∷ []) opens
 gathering m ps opens rest (Lends mode spot) =
     opened m spot >>= (λ begun. rest (suc m) (ps ++ Lent m ∷ []) (record { mode = mode; reference = m; spot = spot } ∷ opens))

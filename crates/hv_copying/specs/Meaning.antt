@@ -16,7 +16,7 @@ most_depth = 1000
 
 -- those that may be entered from the root's own
 abbrev pub below_root : ℕ
-below_root = 999
+below_root = most_depth - 1
 
 -- a task that begins
 abbrev pub fresh : Id → ℕ → Task
