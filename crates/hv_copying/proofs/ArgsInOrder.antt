@@ -10,7 +10,9 @@ use Rattle.hv_rules.specs.Sites.{bodies_of}
 use Rattle.hv_value.specs.ValueTree.{ValueTree, Parts}
 use Rattle.hv_value.specs.Holes.{emptied}
 use Rattle.hv_copying.specs.declared.end.TrapKind.{TrapKind}
-use Rattle.hv_copying.specs.Run.{Cause, Kinds, Run, Flow, and_then, ◌>>=◌, pure, stuck, trap, known, pay, mine, become, with_reference, counted_from}
+use Rattle.hv_copying.specs.declared.end.Cause.TheVariants.{Kinds}
+use Rattle.hv_copying.specs.declared.end.Cause.{Cause}
+use Rattle.hv_copying.specs.Run.{Run, Flow, and_then, ◌>>=◌, pure, halt, stuck, trap, known, pay, mine, become, with_reference, counted_from}
 use Rattle.hv_copying.specs.Ops.{Spot, Mode, Reads, Writes, Sets, Passed, Value, Lent}
 use Rattle.hv_copying.specs.Places.{type_of, found, moved}
 use Rattle.hv_copying.specs.Calls.{Placed, Deeper, passed_captures, lent, pass_value, pass_place, entered}
@@ -44,7 +46,7 @@ unfolding counted_from pure
 free_pure x m = refl
 
 free_stuck : {X : Type 0} (cause : Cause) → Free {X = X} (stuck cause)
-unfolding counted_from stuck
+unfolding counted_from halt
 free_stuck cause m = refl
 
 free_trap : {X : Type 0} (kind : TrapKind) (at : Place) → Free {X = X} (trap kind at)
@@ -87,7 +89,7 @@ on go (Takes a) = go a
 on go (Lends mode spot) = lent copying mode spot go
 
 stuck_on : {X Y : Type 0} (f : X → Does Y) → stuck Kinds ≡ stuck Kinds >>= f
-unfolding and_then stuck
+unfolding and_then halt
 stuck_on f = refl
 
 value_on : (cv : Conv) (place : Placed (Unit {0}) Locals) (x : Does ValueTree) (go : Passed → Does Flow) → pass_value copying cv place x go ≡ value_given cv place x >>= on go
@@ -155,7 +157,7 @@ module _ (tree : Core) (locals : List Local) (deeper : Deeper (Unit {0}) Locals)
   no_args m ps opens = free_then (go ps) (shut opens) (free ps) (free_shut opens) m ∙ sym (pure_then (ps, opens) (finish go))
 
   no_rule : (m : ℕ) (opens : List Access) → counted_from m (stuck Kinds >>= shut opens) ≡ stuck Kinds >>= finish go
-  unfolding counted_from and_then stuck
+  unfolding counted_from and_then halt
   no_rule m opens = refl
 
   pub args_in_order : (given : CoreArgs) (params : List CoreParam) (m : ℕ) (ps : List Passed) (opens : List Access) →

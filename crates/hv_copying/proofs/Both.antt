@@ -3,46 +3,47 @@ use Rattle.std.proofs.Common.{inl, inr, ℕ, suc, Bool, true, false, if◌then�
 use Rattle.hv_tree.specs.declared.place.Place.{Place}
 use Rattle.hv_copying.specs.declared.end.TrapKind.{TrapKind}
 use Rattle.hv_copying.specs.Node.{Id}
-use Rattle.hv_copying.specs.Run.{Task, Cause, Res, Is, Trap, Spent, Stuck, after, Run, Flow, and_then, ◌>>=◌, pure, stuck, trap, spent, known, with_reference, counted_from, unless_left}
+use Rattle.hv_copying.specs.declared.end.Cause.{Cause}
+use Rattle.hv_copying.specs.Run.{Task, Res, Halt, Is, Halted, Trap, Spent, Stuck, after, Run, Flow, and_then, ◌>>=◌, pure, halt, stuck, trap, spent, known, with_reference, counted_from, unless_left}
 use Rattle.hv_copying.specs.Alike.{Both, Relation, Ends, Alike, Kept}
 
 pub both_weaken : {A B : Type 0} (L : Type 0) (H H' : Task → Task → Type 0) (R Q : A → B → Type 0) (x : Res A) (y : Res B) → ((t t' : Task) → H t t' → H' t t') → ((a : A) (b : B) → R a b → Q a b) → Both L H R x y → Both L H' Q x y
-both_weaken L H H' R Q (Stuck cause) y f k h = tt
+both_weaken L H H' R Q (Halted (Stuck cause) w) y f k h = tt
 both_weaken L H H' R Q (Is a) (Is b) f k h = k a b h
-both_weaken L H H' R Q (Is a) (Trap kind at id t) f k h = absurd h
-both_weaken L H H' R Q (Is a) (Spent at id t) f k h = absurd h
-both_weaken L H H' R Q (Is a) (Stuck cause) f k h = absurd h
-both_weaken L H H' R Q (Trap kind at id t) (Trap kind' at' id' t') f k h = (h.0, h.1, h.2, f t t' h.3)
-both_weaken L H H' R Q (Trap kind at id t) (Is b) f k h = absurd h
-both_weaken L H H' R Q (Trap kind at id t) (Spent at' id' t') f k h = absurd h
-both_weaken L H H' R Q (Trap kind at id t) (Stuck cause) f k h = absurd h
-both_weaken L H H' R Q (Spent at id t) (Spent at' id' t') f k (inl l) = inl l
-both_weaken L H H' R Q (Spent at id t) (Spent at' id' t') f k (inr h) = inr (h.0, h.1, f t t' h.2)
-both_weaken L H H' R Q (Spent at id t) (Is b) f k h = h
-both_weaken L H H' R Q (Spent at id t) (Trap kind at' id' t') f k h = h
-both_weaken L H H' R Q (Spent at id t) (Stuck cause) f k h = h
+both_weaken L H H' R Q (Is a) (Halted (Trap kind at id) t) f k h = absurd h
+both_weaken L H H' R Q (Is a) (Halted (Spent at id) t) f k h = absurd h
+both_weaken L H H' R Q (Is a) (Halted (Stuck cause) w) f k h = absurd h
+both_weaken L H H' R Q (Halted (Trap kind at id) t) (Halted (Trap kind' at' id') t') f k h = (h.0, h.1, h.2, f t t' h.3)
+both_weaken L H H' R Q (Halted (Trap kind at id) t) (Is b) f k h = absurd h
+both_weaken L H H' R Q (Halted (Trap kind at id) t) (Halted (Spent at' id') t') f k h = absurd h
+both_weaken L H H' R Q (Halted (Trap kind at id) t) (Halted (Stuck cause) w) f k h = absurd h
+both_weaken L H H' R Q (Halted (Spent at id) t) (Halted (Spent at' id') t') f k (inl l) = inl l
+both_weaken L H H' R Q (Halted (Spent at id) t) (Halted (Spent at' id') t') f k (inr h) = inr (h.0, h.1, f t t' h.2)
+both_weaken L H H' R Q (Halted (Spent at id) t) (Is b) f k h = h
+both_weaken L H H' R Q (Halted (Spent at id) t) (Halted (Trap kind at' id') t') f k h = h
+both_weaken L H H' R Q (Halted (Spent at id) t) (Halted (Stuck cause) w) f k h = h
 
 -- a spent run on the left, where that tells nothing of the right
-pub loose_spent : {A B : Type 0} (L : Type 0) (H : Task → Task → Type 0) (R : A → B → Type 0) (at : Place) (id : Id) (t : Task) (y : Res B) → L → Both L H R (Spent at id t) y
+pub loose_spent : {A B : Type 0} (L : Type 0) (H : Task → Task → Type 0) (R : A → B → Type 0) (at : Place) (id : Id) (t : Task) (y : Res B) → L → Both L H R (Halted (Spent at id) t) y
 loose_spent L H R at id t (Is b) l = l
-loose_spent L H R at id t (Trap kind at' id' t') l = l
-loose_spent L H R at id t (Spent at' id' t') l = inl l
-loose_spent L H R at id t (Stuck cause) l = l
+loose_spent L H R at id t (Halted (Trap kind at' id') t') l = l
+loose_spent L H R at id t (Halted (Spent at' id') t') l = inl l
+loose_spent L H R at id t (Halted (Stuck cause) w) l = l
 
 pub both_after : {A B A' B' : Type 0} (L : Type 0) (H : Task → Task → Type 0) (R : A → B → Type 0) (Q : A' → B' → Type 0) (x : Res A) (y : Res B) (f : A → Res A') (g : B → Res B') → Both L H R x y → ((a : A) (b : B) → R a b → Both L H Q (f a) (g b)) → Both L H Q (after x f) (after y g)
-both_after L H R Q (Stuck cause) y f g h k = tt
+both_after L H R Q (Halted (Stuck cause) w) y f g h k = tt
 both_after L H R Q (Is a) (Is b) f g h k = k a b h
-both_after L H R Q (Is a) (Trap kind at id t) f g h k = absurd h
-both_after L H R Q (Is a) (Spent at id t) f g h k = absurd h
-both_after L H R Q (Is a) (Stuck cause) f g h k = absurd h
-both_after L H R Q (Trap kind at id t) (Trap kind' at' id' t') f g h k = h
-both_after L H R Q (Trap kind at id t) (Is b) f g h k = absurd h
-both_after L H R Q (Trap kind at id t) (Spent at' id' t') f g h k = absurd h
-both_after L H R Q (Trap kind at id t) (Stuck cause) f g h k = absurd h
-both_after L H R Q (Spent at id t) (Spent at' id' t') f g h k = h
-both_after L H R Q (Spent at id t) (Is b) f g h k = loose_spent L H Q at id t (g b) h
-both_after L H R Q (Spent at id t) (Trap kind at' id' t') f g h k = h
-both_after L H R Q (Spent at id t) (Stuck cause) f g h k = h
+both_after L H R Q (Is a) (Halted (Trap kind at id) t) f g h k = absurd h
+both_after L H R Q (Is a) (Halted (Spent at id) t) f g h k = absurd h
+both_after L H R Q (Is a) (Halted (Stuck cause) w) f g h k = absurd h
+both_after L H R Q (Halted (Trap kind at id) t) (Halted (Trap kind' at' id') t') f g h k = h
+both_after L H R Q (Halted (Trap kind at id) t) (Is b) f g h k = absurd h
+both_after L H R Q (Halted (Trap kind at id) t) (Halted (Spent at' id') t') f g h k = absurd h
+both_after L H R Q (Halted (Trap kind at id) t) (Halted (Stuck cause) w) f g h k = absurd h
+both_after L H R Q (Halted (Spent at id) t) (Halted (Spent at' id') t') f g h k = h
+both_after L H R Q (Halted (Spent at id) t) (Is b) f g h k = loose_spent L H Q at id t (g b) h
+both_after L H R Q (Halted (Spent at id) t) (Halted (Trap kind at' id') t') f g h k = h
+both_after L H R Q (Halted (Spent at id) t) (Halted (Stuck cause) w) f g h k = h
 
 module _ {C D S T : Type 0} (r : Relation C D S T) (ok : Kept r) where
   pub bind : {X Y : Type 0} {p : Run C S X} {q : Run D T X} {f : X → Run C S Y} {g : X → Run D T Y} → Alike r p q → ((x : X) → Alike r (f x) (g x)) → Alike r (p >>= f) (q >>= g)
@@ -61,7 +62,7 @@ module _ {C D S T : Type 0} (r : Relation C D S T) (ok : Kept r) where
   pure_alike x = record { alike = λ n c d s t e. (e, ok.still c d t, refl) }
 
   pub stuck_alike : {X : Type 0} (cause : Cause) → Alike {X = X} r (stuck cause) (stuck cause)
-  unfolding stuck
+  unfolding halt
   stuck_alike cause = record { alike = λ n c d s t e. tt }
 
   pub trap_alike : {X : Type 0} (kind : TrapKind) (at : Place) → Alike {X = X} r (trap kind at) (trap kind at)

@@ -15,7 +15,8 @@ use Rattle.hv_value.specs.Operators.{Given, Gives, Overflow, DivZero, BadLength,
 use Rattle.hv_value.specs.Walk.{Link}
 use Rattle.hv_value.specs.Sizes.{copy_cost, fill_cost}
 use Rattle.hv_copying.specs.declared.end.TrapKind.TheVariants as trap_kind
-use Rattle.hv_copying.specs.Run.{Kinds, Holes, Run, Flow}
+use Rattle.hv_copying.specs.declared.end.Cause.TheVariants.{Kinds, Holes}
+use Rattle.hv_copying.specs.Run.{Run, Flow}
 use Rattle.hv_copying.specs.Ops.{Spot, Mode, Reads, Writes, Sets, Passed, Value, Lent, Ops}
 use Rattle.hv_copying.specs.Operations.{number, truth, given, applied, natural, filled_with}
 use Rattle.hv_copying.specs.Places.{body_number, type_of, whole, local, found, copied, moved, counted, all_of, all_found, declared, captured}

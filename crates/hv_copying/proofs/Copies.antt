@@ -4,7 +4,8 @@ use Rattle.hv_tree.specs.declared.place.Place.{Place}
 use Rattle.hv_value.specs.ValueTree.{ValueTree}
 use Rattle.hv_value.specs.Walk.{Reached, Reaches, Outside, Lost, walk}
 use Rattle.hv_copying.specs.declared.end.TrapKind.TheVariants as trap_kind
-use Rattle.hv_copying.specs.Run.{Task, Holes, Tasks, Run, Flow, pay, say, mine, become}
+use Rattle.hv_copying.specs.declared.end.Cause.TheVariants.{Holes, Tasks}
+use Rattle.hv_copying.specs.Run.{Task, Run, Flow, pay, say, mine, become}
 use Rattle.hv_copying.specs.Ops.{Target, Spot, Mode, Reads, Writes, Sets, Passed}
 use Rattle.hv_copying.specs.Copying.{Locals, tree_at, with_tree, arrived, at_spot, written, opened, without, write_back, closed, entering, returned, copying}
 use Rattle.hv_copying.specs.Alike.{Relation, Alike, Kept, Related}

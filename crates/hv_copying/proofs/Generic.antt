@@ -10,7 +10,8 @@ use Rattle.hv_value.specs.ValueTree.{ValueTree, Fields, Elements, Closure, Parts
 use Rattle.hv_value.specs.ValueTree as v
 use Rattle.hv_value.specs.Texts.{text}
 use Rattle.hv_value.specs.Walk.{ToField, ToIndex}
-use Rattle.hv_copying.specs.Run.{Run, Flow, Kinds}
+use Rattle.hv_copying.specs.declared.end.Cause.TheVariants.{Kinds}
+use Rattle.hv_copying.specs.Run.{Run, Flow}
 use Rattle.hv_copying.specs.Ops.{Writes, Passed, Ops}
 use Rattle.hv_copying.specs.Operations.{binary, unary, decides}
 use Rattle.hv_copying.specs.Places.{holes, body_number, type_of}

@@ -4,7 +4,7 @@ use Rattle.std.proofs.lemmas.List.{append_assoc, append-nil}
 use Rattle.hv_tree.specs.declared.place.Place.{Place}
 use Rattle.hv_tree.specs.Core.{Core}
 use Rattle.hv_copying.specs.Node.{used}
-use Rattle.hv_copying.specs.Run.{Task, Res, Is, Trap, Spent, Stuck, Now, Flow, pay, say}
+use Rattle.hv_copying.specs.Run.{Task, Res, Halt, Is, Halted, Trap, Spent, Stuck, Now, Flow, pay, say}
 use Rattle.hv_copying.specs.Copying.{Locals, copying}
 use Rattle.hv_copying.specs.Meaning.{run_of, node_by, node_of, root_by, start, below_root, main_in}
 use Rattle.hv_copying.specs.Alike.{Both, Relation, Ends, Alike}
@@ -43,8 +43,8 @@ now t own = record { task = t; own = own }
 
 paid_by : (b : Bool) (cost : ℕ) (at : Place) (t : Task) (own own' : Locals) → own ≡ own' →
     Both ⊥ (kept.halts tt tt (now t own')) (Ends {X = Unit {0}} kept tt tt (now t own'))
-    (if b then Is (now (record t { steps = t.steps - cost }) own, tt) else Spent at t.id t)
-    (if b then Is (now (record t { steps = t.steps - cost }) own', tt) else Spent at t.id t)
+    (if b then Is (now (record t { steps = t.steps - cost }) own, tt) else Halted (Spent at t.id) t)
+    (if b then Is (now (record t { steps = t.steps - cost }) own', tt) else Halted (Spent at t.id) t)
 paid_by true cost at t own own' e = ((e, refl), paid cost t, refl)
 paid_by false cost at t own own' e = inr (refl, refl, (refl, stays t))
 
@@ -77,10 +77,10 @@ facts = record {
 
 leaves : (P : Task → Type 0) (x : Res (Now Locals × Flow)) (H : Task → Task → Type 0) (R : Now Locals × Flow → Now Locals × Flow → Type 0) → ((t u : Task) → H t u → P u) → ((a b : Now Locals × Flow) → R a b → P b.0.task) → Both ⊥ H R x x → Leaves P x
 leaves P (Is r) H R f k h = k r r h
-leaves P (Trap kind at id t) H R f k h = f t t h.3
-leaves P (Spent at id t) H R f k (inl l) = absurd l
-leaves P (Spent at id t) H R f k (inr h) = f t t h.2
-leaves P (Stuck cause) H R f k h = tt
+leaves P (Halted (Trap kind at id) t) H R f k h = f t t h.3
+leaves P (Halted (Spent at id) t) H R f k (inl l) = absurd l
+leaves P (Halted (Spent at id) t) H R f k (inr h) = f t t h.2
+leaves P (Halted (Stuck cause) w) H R f k h = tt
 
 pub goes_on : (tree : Core) (depth body references : ℕ) (s : Now Locals) → Leaves (Follows s.task) (run_of tree depth body references tt s)
 goes_on tree depth body references s =
@@ -91,9 +91,9 @@ goes_on tree depth body references s =
 
 within_by : (budget : ℕ) (x : Res (Now Locals × Flow)) → IfSome (node_by budget x) (λ node. used node ≤ budget)
 within_by budget (Is r) = omega arith
-within_by budget (Trap kind at id t) = omega arith
-within_by budget (Spent at id t) = omega arith
-within_by budget (Stuck cause) = tt
+within_by budget (Halted (Trap kind at id) t) = omega arith
+within_by budget (Halted (Spent at id) t) = omega arith
+within_by budget (Halted (Stuck cause) w) = tt
 
 root_within : (tree : Core) (budget : ℕ) (f : Option ℕ) → IfSome (root_by tree budget f) (λ node. used node ≤ budget)
 root_within tree budget None = tt

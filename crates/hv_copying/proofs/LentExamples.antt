@@ -7,7 +7,7 @@ use Rattle.hv_tree.specs.Core.{Core, CoreDecl, StructOf, NamedTy, CoreStmt, Prin
 use Rattle.hv_value.specs.ValueTree as tree
 use Rattle.hv_copying.specs.declared.end.TrapKind.TheVariants as trap_kind
 use Rattle.hv_copying.specs.Node.{Trapped, SpentAt, Id}
-use Rattle.hv_copying.specs.Run.{and_then, mine, become, pure, stuck, trap, pay, say, with_reference, counted_from}
+use Rattle.hv_copying.specs.Run.{and_then, mine, become, pure, halt, stuck, trap, pay, say, with_reference, counted_from}
 use Rattle.hv_copying.specs.Blocks.{repeated}
 use Rattle.hv_copying.specs.Meaning.{node_of}
 use Rattle.hv_copying.proofs.Programs.{at, o, name_at, name, block, fun, main, program, param, int, ints, num, between, exprs, call, root, done, line, x, a, b, i, local, at_index}
@@ -90,7 +90,7 @@ abbrev reading : Core
 reading = program (main (Var o x int ∷ (Print o (local x) ∷ [])) 30 ∷ [])
 
 reading_stuck : node_of reading 100 ≡ None
-unfolding node_of and_then mine become pure pay stuck counted_from
+unfolding node_of and_then mine become pure pay halt counted_from
 reading_stuck = refl
 
 -- ---- a moved place is a hole
@@ -103,7 +103,7 @@ moving rest =
     main (VarWith o x int (num 1) ∷ (CallsAlone o (call f 50 (ValueArg (local x) NoArgs)) ∷ rest)) 90 ∷ []))
 
 moving_stuck : node_of (moving (Print o (local x) ∷ [])) 100 ≡ None
-unfolding node_of and_then mine become pure pay stuck with_reference counted_from
+unfolding node_of and_then mine become pure pay halt with_reference counted_from
 moving_stuck = refl
 
 -- a move costs nothing

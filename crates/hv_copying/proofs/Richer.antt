@@ -4,7 +4,7 @@ use Rattle.std.proofs.lemmas.Bool.{le-leb, leb-true}
 use Rattle.hv_tree.specs.declared.place.Place.{Place}
 use Rattle.hv_tree.specs.Core.{Core}
 use Rattle.hv_copying.specs.Node.{End, Done, Trapped, SpentAt, Node, NodeOf, nodes, end_of}
-use Rattle.hv_copying.specs.Run.{Task, Res, Is, Trap, Spent, Stuck, Now, Flow, pay, say}
+use Rattle.hv_copying.specs.Run.{Task, Res, Halt, Is, Halted, Trap, Spent, Stuck, Now, Flow, pay, say}
 use Rattle.hv_copying.specs.Copying.{Locals, copying}
 use Rattle.hv_copying.specs.Calls.{result_of}
 use Rattle.hv_copying.specs.Meaning.{run_of, node, node_by, node_of, root_by, start, below_root, main_in}
@@ -42,11 +42,11 @@ module _ (k : ℕ) where
 
   paid_by : (b : Bool) (cost : ℕ) (at : Place) (t : Task) (own own' : Locals) → own ≡ own' → nat_le cost t.steps ≡ b →
       Both (Unit {0}) (rich.halts tt tt (now (richer k t) own')) (Ends {X = Unit {0}} rich tt tt (now (richer k t) own'))
-      (if b then Is (now (record t { steps = t.steps - cost }) own, tt) else Spent at t.id t)
-      (if nat_le cost (t.steps + k) then Is (now (record t { steps = t.steps + k - cost }) own', tt) else Spent at t.id (richer k t))
+      (if b then Is (now (record t { steps = t.steps - cost }) own, tt) else Halted (Spent at t.id) t)
+      (if nat_le cost (t.steps + k) then Is (now (record t { steps = t.steps + k - cost }) own', tt) else Halted (Spent at t.id) (richer k t))
   paid_by true cost at t own own' e h =
       subst (Both (Unit {0}) (rich.halts tt tt (now (richer k t) own')) (Ends {X = Unit {0}} rich tt tt (now (richer k t) own')) (Is (now (record t { steps = t.steps - cost }) own, tt)))
-      (if_true (nat_le cost (t.steps + k)) (Is (now (record t { steps = t.steps + k - cost }) own', tt)) (Spent at t.id (richer k t)) (still_enough cost t h))
+      (if_true (nat_le cost (t.steps + k)) (Is (now (record t { steps = t.steps + k - cost }) own', tt)) (Halted (Spent at t.id) (richer k t)) (still_enough cost t h))
       ((e, ap (λ n. record t { steps = n }) (rest cost t.steps (leb-true cost t.steps h))), tt, refl)
   paid_by false cost at t own own' e h =
       loose_spent (Unit {0}) (rich.halts tt tt (now (richer k t) own')) (Ends {X = Unit {0}} rich tt tt (now (richer k t) own')) at t.id t _ tt
@@ -91,16 +91,16 @@ module _ (k : ℕ) where
   by_result : (budget : ℕ) (x y : Res (Now Locals × Flow)) (t : Now Locals) (n : Node) → Both (Unit {0}) (rich.halts tt tt t) (Ends rich tt tt t) x y → node_by budget x ≡ Some n → is_spent (end_of n) ≡ false → node_by (budget + k) y ≡ Some n
   by_result budget (Is a) (Is b) t n h e f =
       ap (λ w. Some (node (budget + k) (Done (result_of w)) b.0.task)) (sym h.2) ∙ (ap (λ m. Some m) (same_node budget (Done (result_of a.1)) a.0.task b.0.task h.0.1) ∙ e)
-  by_result budget (Is a) (Trap kind at id u) t n h e f = absurd h
-  by_result budget (Is a) (Spent at id u) t n h e f = absurd h
-  by_result budget (Is a) (Stuck cause) t n h e f = absurd h
-  by_result budget (Trap kind at id u) (Trap kind' at' id' u') t n h e f =
+  by_result budget (Is a) (Halted (Trap kind at id) u) t n h e f = absurd h
+  by_result budget (Is a) (Halted (Spent at id) u) t n h e f = absurd h
+  by_result budget (Is a) (Halted (Stuck cause) w) t n h e f = absurd h
+  by_result budget (Halted (Trap kind at id) u) (Halted (Trap kind' at' id') u') t n h e f =
       ap (λ m. Some m) (ap (λ z. node (budget + k) (Trapped z at' id') u') (sym h.0) ∙ (ap (λ z. node (budget + k) (Trapped kind z id') u') (sym h.1) ∙ (ap (λ z. node (budget + k) (Trapped kind at z) u') (sym h.2) ∙ same_node budget (Trapped kind at id) u u' h.3.0))) ∙ e
-  by_result budget (Trap kind at id u) (Is b) t n h e f = absurd h
-  by_result budget (Trap kind at id u) (Spent at' id' u') t n h e f = absurd h
-  by_result budget (Trap kind at id u) (Stuck cause) t n h e f = absurd h
-  by_result budget (Spent at id u) y t n h e f = absurd (not_spent (node budget (SpentAt at id) u) n refl e f)
-  by_result budget (Stuck cause) y t n h e f = cc
+  by_result budget (Halted (Trap kind at id) u) (Is b) t n h e f = absurd h
+  by_result budget (Halted (Trap kind at id) u) (Halted (Spent at' id') u') t n h e f = absurd h
+  by_result budget (Halted (Trap kind at id) u) (Halted (Stuck cause) w) t n h e f = absurd h
+  by_result budget (Halted (Spent at id) u) y t n h e f = absurd (not_spent (node budget (SpentAt at id) u) n refl e f)
+  by_result budget (Halted (Stuck cause) w) y t n h e f = cc
 
   root_same : (tree : Core) (budget : ℕ) (f : Option ℕ) (n : Node) → root_by tree budget f ≡ Some n → is_spent (end_of n) ≡ false → root_by tree (budget + k) f ≡ Some n
   root_same tree budget None n e h = cc

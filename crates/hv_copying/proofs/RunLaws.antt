@@ -1,18 +1,14 @@
 -- Laws of runs one after another.
 use Rattle.std.proofs.Common.{◌≡◌, refl, ap}
-use Rattle.hv_copying.specs.Run.{Res, Is, Trap, Spent, Stuck, after, Run, and_then, ◌>>=◌, pure}
+use Rattle.hv_copying.specs.Run.{Res, Is, Halted, after, Run, and_then, ◌>>=◌, pure}
 
 after_after : {A B X : Type 0} (x : Res A) (f : A → Res B) (g : B → Res X) → after (after x f) g ≡ after x (λ a. after (f a) g)
 after_after (Is a) f g = refl
-after_after (Trap kind at id t) f g = refl
-after_after (Spent at id t) f g = refl
-after_after (Stuck cause) f g = refl
+after_after (Halted h t) f g = refl
 
 after_is : {A : Type 0} (x : Res A) → after x (λ a. Is a) ≡ x
 after_is (Is a) = refl
-after_is (Trap kind at id t) = refl
-after_is (Spent at id t) = refl
-after_is (Stuck cause) = refl
+after_is (Halted h t) = refl
 
 pub bind_assoc : {C S X Y Z : Type 0} (p : Run C S X) (f : X → Run C S Y) (g : Y → Run C S Z) → (p >>= f) >>= g ≡ p >>= (λ x. f x >>= g)
 unfolding and_then

@@ -15,7 +15,7 @@ use Rattle.hv_value.specs.Operators.{Given, Gives, Overflow, in_range}
 use Rattle.hv_value.specs.Operators as op
 use Rattle.hv_value.specs.Texts.{text}
 use Rattle.hv_copying.specs.declared.end.TrapKind.TheVariants as trap_kind
-use Rattle.hv_copying.specs.Run.{Res, Is, Trap, Spent, Stuck, after, Now, Run, Flow, and_then, ◌>>=◌, pure, trap, pay, say, counted_from}
+use Rattle.hv_copying.specs.Run.{Res, Halt, Is, Halted, Trap, Spent, Stuck, after, Now, Run, Flow, and_then, ◌>>=◌, pure, trap, pay, say, counted_from}
 use Rattle.hv_copying.specs.Ops.{Ops}
 use Rattle.hv_copying.specs.Operations.{given, applied, binary, decides}
 use Rattle.hv_copying.specs.Blocks.{first_token}
@@ -29,18 +29,18 @@ use Rattle.hv_copying.specs.Sums.{is_sign, is_sum, are_sums, prints_sum, print_s
 -- not stuck, with a result in P
 abbrev Meets : {S X : Type 0} → (X → Type 0) → Res (Now S × X) → Type 0
 Meets P (Is r) = P r.1
-Meets P (Trap kind at id t) = Unit {0}
-Meets P (Spent at id t) = Unit {0}
-Meets P (Stuck cause) = ⊥
+Meets P (Halted (Trap kind at id) t) = Unit {0}
+Meets P (Halted (Spent at id) t) = Unit {0}
+Meets P (Halted (Stuck cause) w) = ⊥
 
 record Goes {C S X : Type 0} (P : X → Type 0) (p : Run C S X) : Type 0 where
   goes : (n : ℕ) (c : C) (s : Now S) → Meets P (p n c s)
 
 meets_after : {S X Y : Type 0} (P : X → Type 0) (Q : Y → Type 0) (x : Res (Now S × X)) (f : Now S × X → Res (Now S × Y)) → Meets P x → ((r : Now S × X) → P r.1 → Meets Q (f r)) → Meets Q (after x f)
 meets_after P Q (Is r) f h k = k r h
-meets_after P Q (Trap kind at id t) f h k = tt
-meets_after P Q (Spent at id t) f h k = tt
-meets_after P Q (Stuck cause) f h k = absurd h
+meets_after P Q (Halted (Trap kind at id) t) f h k = tt
+meets_after P Q (Halted (Spent at id) t) f h k = tt
+meets_after P Q (Halted (Stuck cause) w) f h k = absurd h
 
 bind : {C S X Y : Type 0} {P : X → Type 0} {Q : Y → Type 0} {p : Run C S X} {f : X → Run C S Y} → Goes P p → ((x : X) → P x → Goes Q (f x)) → Goes Q (p >>= f)
 unfolding and_then
@@ -178,9 +178,9 @@ counted_goes m h = record { goes = λ n c s. h.goes m c s }
 
 node_some : (budget : ℕ) (P : Flow → Type 0) (x : Res (Now Locals × Flow)) → Meets P x → is_some (node_by budget x) ≡ true
 node_some budget P (Is r) h = refl
-node_some budget P (Trap kind at id t) h = refl
-node_some budget P (Spent at id t) h = refl
-node_some budget P (Stuck cause) h = absurd h
+node_some budget P (Halted (Trap kind at id) t) h = refl
+node_some budget P (Halted (Spent at id) t) h = refl
+node_some budget P (Halted (Stuck cause) w) h = absurd h
 
 ended_goes : (result : Option CoreTy) (flow : Flow) → flow ≡ None → no_result result ≡ true → Goes {C = Unit {0}} {S = Locals} Any (ended result flow)
 ended_goes None flow e h = pure_goes flow tt

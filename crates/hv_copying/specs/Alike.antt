@@ -2,18 +2,18 @@
 use Rattle.std.specs.Prelude.{◌≡◌, ◌≤◌, ◌⊎◌, ℕ, List}
 use Rattle.hv_tree.specs.declared.place.Place.{Place}
 use Rattle.hv_value.specs.ValueTree.{ValueTree}
-use Rattle.hv_copying.specs.Run.{Task, Res, Is, Trap, Spent, Stuck, Now, Run, Flow, pay, say}
+use Rattle.hv_copying.specs.Run.{Task, Res, Halt, Is, Halted, Trap, Spent, Stuck, Now, Run, Flow, pay, say}
 use Rattle.hv_copying.specs.Ops.{Target, Spot, Mode, Passed, Ops}
 
 -- the same kind of end, with tasks in H beside a halt. A run that is stuck is as any other; where Loose is met, a spent one too
 abbrev pub Both : {A B : Type 0} → Type 0 → (Task → Task → Type 0) → (A → B → Type 0) → Res A → Res B → Type 0
-Both Loose H R (Stuck cause) y = Unit {0}
+Both Loose H R (Halted (Stuck cause) w) y = Unit {0}
 Both Loose H R (Is a) (Is b) = R a b
 Both Loose H R (Is a) y = ⊥
-Both Loose H R (Trap kind at id t) (Trap kind' at' id' t') = (kind ≡ kind') × (at ≡ at') × (id ≡ id') × H t t'
-Both Loose H R (Trap kind at id t) y = ⊥
-Both Loose H R (Spent at id t) (Spent at' id' t') = Loose ⊎ ((at ≡ at') × (id ≡ id') × H t t')
-Both Loose H R (Spent at id t) y = Loose
+Both Loose H R (Halted (Trap kind at id) t) (Halted (Trap kind' at' id') t') = (kind ≡ kind') × (at ≡ at') × (id ≡ id') × H t t'
+Both Loose H R (Halted (Trap kind at id) t) y = ⊥
+Both Loose H R (Halted (Spent at id) t) (Halted (Spent at' id') t') = Loose ⊎ ((at ≡ at') × (id ≡ id') × H t t')
+Both Loose H R (Halted (Spent at id) t) y = Loose
 
 -- how two kinds of state are compared
 pub record Relation (C D S T : Type 0) : Type 1 where

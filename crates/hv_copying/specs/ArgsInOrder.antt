@@ -7,7 +7,8 @@ use Rattle.hv_tree.specs.Core.{Core, CoreParam, CoreArgs, NoArgs, ValueArg, RefA
 use Rattle.hv_rules.specs.Locals.{Local, CoreBody}
 use Rattle.hv_value.specs.ValueTree.{ValueTree, Parts}
 use Rattle.hv_value.specs.Holes.{emptied}
-use Rattle.hv_copying.specs.Run.{Run, Flow, Kinds, ◌>>=◌, pure, stuck, counted_from}
+use Rattle.hv_copying.specs.declared.end.Cause.TheVariants.{Kinds}
+use Rattle.hv_copying.specs.Run.{Run, Flow, ◌>>=◌, pure, stuck, counted_from}
 use Rattle.hv_copying.specs.Ops.{Spot, Mode, Reads, Writes, Sets, Passed, Value, Lent}
 use Rattle.hv_copying.specs.Places.{type_of, found, moved}
 use Rattle.hv_copying.specs.Calls.{Placed, Deeper, passed_captures, entered}

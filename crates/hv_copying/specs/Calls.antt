@@ -12,7 +12,8 @@ use Rattle.hv_rules.specs.Sites.{bodies_of}
 use Rattle.hv_value.specs.ValueTree.{ValueTree, Fields, Closure, Parts, Nil, Cons, row}
 use Rattle.hv_value.specs.Holes.{emptied}
 use Rattle.hv_copying.specs.declared.end.TrapKind.TheVariants as trap_kind
-use Rattle.hv_copying.specs.Run.{Run, Flow, Kinds, Holes, ◌>>=◌, pure, stuck, trap, known, pay, with_reference}
+use Rattle.hv_copying.specs.declared.end.Cause.TheVariants.{Kinds, Holes}
+use Rattle.hv_copying.specs.Run.{Run, Flow, ◌>>=◌, pure, stuck, trap, known, pay, with_reference}
 use Rattle.hv_copying.specs.Ops.{Spot, Mode, Reads, Writes, Sets, Passed, Value, Lent, Ops}
 use Rattle.hv_copying.specs.Places.{body_number, copied, moved}
 

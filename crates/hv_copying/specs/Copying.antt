@@ -5,7 +5,8 @@ use Rattle.hv_value.specs.ValueTree.{ValueTree, Hole}
 use Rattle.hv_value.specs.Places.{get, put}
 use Rattle.hv_value.specs.Walk.{Reached, Reaches, Outside, Lost, walk}
 use Rattle.hv_copying.specs.declared.end.TrapKind.TheVariants as trap_kind
-use Rattle.hv_copying.specs.Run.{Run, Holes, Tasks, ◌>>=◌, pure, stuck, trap, known, mine, become}
+use Rattle.hv_copying.specs.declared.end.Cause.TheVariants.{Holes, Tasks}
+use Rattle.hv_copying.specs.Run.{Run, ◌>>=◌, pure, stuck, trap, known, mine, become}
 use Rattle.hv_copying.specs.Ops.{Target, Spot, Mode, Reads, Writes, Sets, Passed, Value, Lent, Ops}
 
 -- the locals of the body that runs, each a tree with holes, and the children under its handles

@@ -12,7 +12,8 @@ use Rattle.hv_value.specs.ValueTree.{ValueTree, Fields, Elements, Closure, Parts
 use Rattle.hv_value.specs.ValueTree as v
 use Rattle.hv_value.specs.Texts.{text}
 use Rattle.hv_value.specs.Walk.{Link, ToField, ToIndex}
-use Rattle.hv_copying.specs.Run.{Run, Flow, Kinds, ◌>>=◌, pure, stuck, known, pay, say, counted_from, unless_left}
+use Rattle.hv_copying.specs.declared.end.Cause.TheVariants.{Kinds}
+use Rattle.hv_copying.specs.Run.{Run, Flow, ◌>>=◌, pure, stuck, known, pay, say, counted_from, unless_left}
 use Rattle.hv_copying.specs.Ops.{Spot, Writes, Passed, Ops}
 use Rattle.hv_copying.specs.Operations.{number, binary, unary, decides, applied, filled_with}
 use Rattle.hv_copying.specs.Places.{holes, body_number, type_of, local, found, copied, counted, declared, captured}

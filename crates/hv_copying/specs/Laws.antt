@@ -1,7 +1,7 @@
 -- What laws say of runs.
 use Rattle.std.specs.Prelude.{◌≡◌, ◌≤◌, Bool, true, false, List, ◌++◌}
 use Rattle.hv_copying.specs.Node.{End, Done, Trapped, SpentAt}
-use Rattle.hv_copying.specs.Run.{Task, Res, Is, Trap, Spent, Stuck, Now}
+use Rattle.hv_copying.specs.Run.{Task, Res, Halt, Is, Halted, Trap, Spent, Stuck, Now}
 
 -- the old list is the front of the new one
 abbrev pub Extends : {A : Type 0} → List A → List A → Type 0
@@ -17,9 +17,9 @@ pub record Follows (old new : Task) : Type 0 where
 -- what holds of the task at the end of a run, however that ends
 abbrev pub Leaves : {S A : Type 0} → (Task → Type 0) → Res (Now S × A) → Type 0
 Leaves P (Is r) = P r.0.task
-Leaves P (Trap kind at id t) = P t
-Leaves P (Spent at id t) = P t
-Leaves P (Stuck cause) = Unit {0}
+Leaves P (Halted (Trap kind at id) t) = P t
+Leaves P (Halted (Spent at id) t) = P t
+Leaves P (Halted (Stuck cause) w) = Unit {0}
 
 abbrev pub is_spent : End → Bool
 is_spent (Done v) = false

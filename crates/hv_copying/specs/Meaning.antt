@@ -4,7 +4,7 @@ use Rattle.hv_tree.specs.Core.{Core}
 use Rattle.hv_rules.specs.Types.{fun_in}
 use Rattle.hv_rules.specs.Sites.{bodies_of}
 use Rattle.hv_copying.specs.Node.{Id, End, Done, Trapped, SpentAt, Node, NodeOf, nodes}
-use Rattle.hv_copying.specs.Run.{Task, Res, Is, Trap, Spent, Stuck, Now, Run, Flow}
+use Rattle.hv_copying.specs.Run.{Task, Res, Halt, Is, Halted, Trap, Spent, Stuck, Now, Run, Flow}
 use Rattle.hv_copying.specs.Places.{body_number}
 use Rattle.hv_copying.specs.Calls.{result_of}
 use Rattle.hv_copying.specs.Evaluate.{bodies_run, activations}
@@ -31,9 +31,9 @@ node budget end t = NodeOf t.id (budget - t.steps) end t.output (nodes t.childre
 
 abbrev pub node_by : ℕ → Res (Now Locals × Flow) → Option Node
 node_by budget (Is r) = Some (node budget (Done (result_of r.1)) r.0.task)
-node_by budget (Trap kind at id t) = Some (node budget (Trapped kind at id) t)
-node_by budget (Spent at id t) = Some (node budget (SpentAt at id) t)
-node_by budget (Stuck cause) = None
+node_by budget (Halted (Trap kind at id) t) = Some (node budget (Trapped kind at id) t)
+node_by budget (Halted (Spent at id) t) = Some (node budget (SpentAt at id) t)
+node_by budget (Halted (Stuck cause) w) = None
 
 -- a body where so many further activations may be entered
 abbrev pub run_of : Core → ℕ → ℕ → Run (Unit {0}) Locals Flow

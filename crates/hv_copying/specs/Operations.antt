@@ -7,7 +7,8 @@ use Rattle.hv_value.specs.ValueTree.{ValueTree, Number, Truth}
 use Rattle.hv_value.specs.Operators.{Given, Gives, Overflow, DivZero, BadLength, TooLong, of_numbers, of_number, of_truth, add, subtract, multiply, divide, remainder, negate, equal, unequal, less, at_most, greater, at_least, opposite, filled}
 use Rattle.hv_value.specs.Sizes.{fill_cost}
 use Rattle.hv_copying.specs.declared.end.TrapKind.TheVariants as trap_kind
-use Rattle.hv_copying.specs.Run.{Run, Kinds, ◌>>=◌, pure, stuck, trap, known, pay}
+use Rattle.hv_copying.specs.declared.end.Cause.TheVariants.{Kinds}
+use Rattle.hv_copying.specs.Run.{Run, ◌>>=◌, pure, stuck, trap, known, pay}
 
 -- ---- values of a kind
 

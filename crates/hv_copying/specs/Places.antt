@@ -11,7 +11,8 @@ use Rattle.hv_value.specs.Holes.{is_whole, emptied, fields_or_hole}
 use Rattle.hv_value.specs.Sizes.{copy_cost}
 use Rattle.hv_value.specs.Operators.{length_of}
 use Rattle.hv_value.specs.Walk.{Link}
-use Rattle.hv_copying.specs.Run.{Run, Kinds, Holes, ◌>>=◌, pure, stuck, known, pay}
+use Rattle.hv_copying.specs.declared.end.Cause.TheVariants.{Kinds, Holes}
+use Rattle.hv_copying.specs.Run.{Run, ◌>>=◌, pure, stuck, known, pay}
 use Rattle.hv_copying.specs.Ops.{Spot, Ops}
 
 -- ---- holes of a type

@@ -3,6 +3,7 @@ use Rattle.std.specs.Prelude.{ℕ, suc, ◌-◌, nat_le, if◌then◌else◌, Li
 use Rattle.hv_tree.specs.declared.place.Place.{Place}
 use Rattle.hv_value.specs.ValueTree.{ValueTree}
 use Rattle.hv_copying.specs.declared.end.TrapKind.{TrapKind}
+use Rattle.hv_copying.specs.declared.end.Cause.{Cause}
 use Rattle.hv_copying.specs.Node.{Id, Node}
 
 -- ---- results
@@ -14,27 +15,22 @@ pub record Task : Type 0 where
   pub output : List ℕ
   pub children : List Node
 
--- what there is no rule for
-pub data Cause : Type 0 where
-  -- a value of another kind than is asked for, or a name that stands for nothing
-  Kinds : Cause
-  -- a hole is read, a place isn't there, or a body ends without its result
-  Holes : Cause
-  -- tasks have no rule yet
-  Tasks : Cause
+-- how a run ends before its end
+pub data Halt : Type 0 where
+  -- the kind, the place, and the task in which it came
+  Trap : TrapKind → Place → Id → Halt
+  -- the place of what could not be paid, and the task
+  Spent : Place → Id → Halt
+  Stuck : Cause → Halt
 
+-- what is given, or how it halted, and what the task is then
 pub data Res (A : Type 0) : Type 0 where
   Is : A → Res A
-  -- the kind, the place and the task in which it came, and what the task is then
-  Trap : TrapKind → Place → Id → Task → Res A
-  Spent : Place → Id → Task → Res A
-  Stuck : Cause → Res A
+  Halted : Halt → Task → Res A
 
 abbrev pub after : {A B : Type 0} → Res A → (A → Res B) → Res B
 after (Is a) f = f a
-after (Trap kind at id t) f = Trap kind at id t
-after (Spent at id t) f = Spent at id t
-after (Stuck cause) f = Stuck cause
+after (Halted h t) f = Halted h t
 
 -- ---- runs
 
@@ -62,14 +58,17 @@ p >>= f = and_then p f
 unfoldable pub pure : {C S A : Type 0} → A → Run C S A
 pure a n c s = Is (s, a)
 
-unfoldable pub stuck : {C S A : Type 0} → Cause → Run C S A
-stuck cause n c s = Stuck cause
+unfoldable pub halt : {C S A : Type 0} → Halt → Run C S A
+halt h n c s = Halted h s.task
+
+abbrev pub stuck : {C S A : Type 0} → Cause → Run C S A
+stuck cause = halt (Stuck cause)
 
 unfoldable pub trap : {C S A : Type 0} → TrapKind → Place → Run C S A
-trap kind at n c s = Trap kind at s.task.id s.task
+trap kind at n c s = Halted (Trap kind at s.task.id) s.task
 
 unfoldable pub spent : {C S A : Type 0} → Place → Run C S A
-spent at n c s = Spent at s.task.id s.task
+spent at n c s = Halted (Spent at s.task.id) s.task
 
 -- what is there, or no rule
 abbrev pub known : {C S A : Type 0} → Cause → Option A → Run C S A
@@ -80,7 +79,7 @@ known cause (Some a) = pure a
 unfoldable pub pay : {C S : Type 0} → ℕ → Place → Run C S (Unit {0})
 pay cost at n c s =
     if nat_le cost s.task.steps then Is (record s { task = record s.task { steps = s.task.steps - cost } }, tt)
-    else Spent at s.task.id s.task
+    else Halted (Spent at s.task.id) s.task
 
 -- bytes are added to the output
 unfoldable pub say : {C S : Type 0} → List ℕ → Run C S (Unit {0})

@@ -16,3 +16,14 @@ pub enum TrapKind {
     /// So many activations are open that no further one may be entered.
     TooDeep,
 }
+
+/// What there is no rule for. An accepted program never comes to it.
+#[derive(Clone, Copy, Debug, PartialEq, Eq)]
+pub enum Cause {
+    /// A value of another kind than is asked for, or a name that stands for nothing.
+    Kinds,
+    /// A hole is read, a place isn't there, or a body ends without its result.
+    Holes,
+    /// Tasks have no rule yet.
+    Tasks,
+}
