@@ -4,7 +4,7 @@ use Rattle.hv_tree.specs.declared.place.Place.{Place}
 use Rattle.hv_copying.specs.declared.end.TrapKind.{TrapKind}
 use Rattle.hv_copying.specs.Node.{Id}
 use Rattle.hv_copying.specs.declared.end.Cause.{Cause}
-use Rattle.hv_copying.specs.Run.{Task, Res, Halt, Is, Halted, Trap, Spent, Stuck, after, Run, Flow, and_then, ◌>>=◌, pure, halt, stuck, trap, spent, known, with_reference, counted_from, unless_left}
+use Rattle.hv_copying.specs.Run.{Task, Res, Is, Halted, Trap, Spent, Stuck, after, Run, Flow, and_then, ◌>>=◌, pure, halt, stuck, trap, spent, known, with_reference, counted_from, unless_left}
 use Rattle.hv_copying.specs.Alike.{Both, Relation, Ends, Alike, Kept}
 
 pub both_weaken : {A B : Type 0} (L : Type 0) (H H' : Task → Task → Type 0) (R Q : A → B → Type 0) (x : Res A) (y : Res B) → ((t t' : Task) → H t t' → H' t t') → ((a : A) (b : B) → R a b → Q a b) → Both L H R x y → Both L H' Q x y

@@ -4,7 +4,7 @@ use Rattle.std.proofs.lemmas.List.{append_assoc, append-nil}
 use Rattle.hv_tree.specs.declared.place.Place.{Place}
 use Rattle.hv_tree.specs.Core.{Core}
 use Rattle.hv_copying.specs.Node.{used}
-use Rattle.hv_copying.specs.Run.{Task, Res, Halt, Is, Halted, Trap, Spent, Stuck, Now, Flow, pay, say}
+use Rattle.hv_copying.specs.Run.{Task, Res, Is, Halted, Trap, Spent, Stuck, Now, Flow, pay, say}
 use Rattle.hv_copying.specs.Copying.{Locals, copying}
 use Rattle.hv_copying.specs.Meaning.{run_of, node_by, node_of, root_by, start, below_root, main_in}
 use Rattle.hv_copying.specs.Alike.{Both, Relation, Ends, Alike}

@@ -7,7 +7,7 @@ use Rattle.hv_tree.specs.Core.{Core, CoreDecl, StructOf, NamedTy, CoreStmt, Prin
 use Rattle.hv_value.specs.ValueTree as tree
 use Rattle.hv_copying.specs.declared.end.TrapKind.TheVariants as trap_kind
 use Rattle.hv_copying.specs.Node.{Trapped, SpentAt, Id}
-use Rattle.hv_copying.specs.Run.{and_then, mine, become, pure, halt, stuck, trap, pay, say, with_reference, counted_from}
+use Rattle.hv_copying.specs.Run.{and_then, mine, become, pure, halt, trap, pay, say, with_reference, counted_from}
 use Rattle.hv_copying.specs.Blocks.{repeated}
 use Rattle.hv_copying.specs.Meaning.{node_of}
 use Rattle.hv_copying.proofs.Programs.{at, o, name_at, name, block, fun, main, program, param, int, ints, num, between, exprs, call, root, done, line, x, a, b, i, local, at_index}

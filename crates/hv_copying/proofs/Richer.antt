@@ -4,7 +4,7 @@ use Rattle.std.proofs.lemmas.Bool.{le-leb, leb-true}
 use Rattle.hv_tree.specs.declared.place.Place.{Place}
 use Rattle.hv_tree.specs.Core.{Core}
 use Rattle.hv_copying.specs.Node.{End, Done, Trapped, SpentAt, Node, NodeOf, nodes, end_of}
-use Rattle.hv_copying.specs.Run.{Task, Res, Halt, Is, Halted, Trap, Spent, Stuck, Now, Flow, pay, say}
+use Rattle.hv_copying.specs.Run.{Task, Res, Is, Halted, Trap, Spent, Stuck, Now, Flow, pay, say}
 use Rattle.hv_copying.specs.Copying.{Locals, copying}
 use Rattle.hv_copying.specs.Calls.{result_of}
 use Rattle.hv_copying.specs.Meaning.{run_of, node, node_by, node_of, root_by, start, below_root, main_in}

@@ -15,7 +15,7 @@ use Rattle.hv_value.specs.Operators.{Given, Gives, Overflow, in_range}
 use Rattle.hv_value.specs.Operators as op
 use Rattle.hv_value.specs.Texts.{text}
 use Rattle.hv_copying.specs.declared.end.TrapKind.TheVariants as trap_kind
-use Rattle.hv_copying.specs.Run.{Res, Halt, Is, Halted, Trap, Spent, Stuck, after, Now, Run, Flow, and_then, ◌>>=◌, pure, trap, pay, say, counted_from}
+use Rattle.hv_copying.specs.Run.{Res, Is, Halted, Trap, Spent, Stuck, after, Now, Run, Flow, and_then, ◌>>=◌, pure, trap, pay, say, counted_from}
 use Rattle.hv_copying.specs.Ops.{Ops}
 use Rattle.hv_copying.specs.Operations.{given, applied, binary, decides}
 use Rattle.hv_copying.specs.Blocks.{first_token}

@@ -2,7 +2,7 @@
 use Rattle.std.specs.Prelude.{◌≡◌, ◌≤◌, ◌⊎◌, ℕ, List}
 use Rattle.hv_tree.specs.declared.place.Place.{Place}
 use Rattle.hv_value.specs.ValueTree.{ValueTree}
-use Rattle.hv_copying.specs.Run.{Task, Res, Halt, Is, Halted, Trap, Spent, Stuck, Now, Run, Flow, pay, say}
+use Rattle.hv_copying.specs.Run.{Task, Res, Is, Halted, Trap, Spent, Stuck, Now, Run, Flow, pay, say}
 use Rattle.hv_copying.specs.Ops.{Target, Spot, Mode, Passed, Ops}
 
 -- the same kind of end, with tasks in H beside a halt. A run that is stuck is as any other; where Loose is met, a spent one too

@@ -1,7 +1,7 @@
 -- What laws say of runs.
 use Rattle.std.specs.Prelude.{◌≡◌, ◌≤◌, Bool, true, false, List, ◌++◌}
 use Rattle.hv_copying.specs.Node.{End, Done, Trapped, SpentAt}
-use Rattle.hv_copying.specs.Run.{Task, Res, Halt, Is, Halted, Trap, Spent, Stuck, Now}
+use Rattle.hv_copying.specs.Run.{Task, Res, Is, Halted, Trap, Spent, Stuck, Now}
 
 -- the old list is the front of the new one
 abbrev pub Extends : {A : Type 0} → List A → List A → Type 0

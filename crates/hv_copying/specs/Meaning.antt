@@ -4,7 +4,7 @@ use Rattle.hv_tree.specs.Core.{Core}
 use Rattle.hv_rules.specs.Types.{fun_in}
 use Rattle.hv_rules.specs.Sites.{bodies_of}
 use Rattle.hv_copying.specs.Node.{Id, End, Done, Trapped, SpentAt, Node, NodeOf, nodes}
-use Rattle.hv_copying.specs.Run.{Task, Res, Halt, Is, Halted, Trap, Spent, Stuck, Now, Run, Flow}
+use Rattle.hv_copying.specs.Run.{Task, Res, Is, Halted, Trap, Spent, Stuck, Now, Run, Flow}
 use Rattle.hv_copying.specs.Places.{body_number}
 use Rattle.hv_copying.specs.Calls.{result_of}
 use Rattle.hv_copying.specs.Evaluate.{bodies_run, activations}
