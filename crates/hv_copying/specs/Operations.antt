@@ -1,0 +1,71 @@
+-- Operators, and values of the kind that is asked for.
+use Rattle.std.specs.Prelude.{ℕ, ℤ, pos, negsuc, Bool, false, not, Option, Some, None}
+use Rattle.hv_tree.specs.declared.place.Place.{Place}
+use Rattle.hv_tree.specs.declared.ast.Operator.{Operator}
+use Rattle.hv_tree.specs.declared.ast.Operator.TheVariants as operator
+use Rattle.hv_value.specs.ValueTree.{ValueTree, Number, Truth}
+use Rattle.hv_value.specs.Operators.{Given, Gives, Overflow, DivZero, BadLength, TooLong, of_numbers, of_number, of_truth, add, subtract, multiply, divide, remainder, negate, equal, unequal, less, at_most, greater, at_least, opposite, filled}
+use Rattle.hv_value.specs.Sizes.{fill_cost}
+use Rattle.hv_copying.specs.declared.end.TrapKind.TheVariants as trap_kind
+use Rattle.hv_copying.specs.declared.end.Cause.TheVariants.{Kinds}
+use Rattle.hv_copying.specs.Run.{Run, ◌>>=◌, pure, stuck, trap, known, pay}
+
+-- ---- values of a kind
+
+abbrev pub number : {C S : Type 0} → ValueTree → Run C S ℤ
+number (Number z) = pure z
+number _ = stuck Kinds
+
+abbrev pub truth : {C S : Type 0} → ValueTree → Run C S Bool
+truth (Truth b) = pure b
+truth _ = stuck Kinds
+
+-- ---- operators
+
+abbrev pub binary : Operator → ValueTree → ValueTree → Option Given
+binary operator.Add v w = of_numbers add v w
+binary operator.Sub v w = of_numbers subtract v w
+binary operator.Mul v w = of_numbers multiply v w
+binary operator.Div v w = of_numbers divide v w
+binary operator.Rem v w = of_numbers remainder v w
+binary operator.Eq v w = Some (equal v w)
+binary operator.Ne v w = Some (unequal v w)
+binary operator.Lt v w = of_numbers less v w
+binary operator.Le v w = of_numbers at_most v w
+binary operator.Gt v w = of_numbers greater v w
+binary operator.Ge v w = of_numbers at_least v w
+binary operator.And (Truth a) (Truth b) = Some (Gives (Truth b))
+binary operator.Or (Truth a) (Truth b) = Some (Gives (Truth b))
+binary _ v w = None
+
+abbrev pub unary : Operator → ValueTree → Option Given
+unary operator.Neg v = of_number negate v
+unary operator.Not v = of_truth opposite v
+unary _ v = None
+
+-- `&&` and `||` stop at the operand that decides
+abbrev pub decides : Operator → ValueTree → Bool
+decides operator.And (Truth b) = not b
+decides operator.Or (Truth b) = b
+decides _ v = false
+
+-- the result, or the trap at this place
+abbrev pub given : {C S : Type 0} → Place → Given → Run C S ValueTree
+given at (Gives v) = pure v
+given at Overflow = trap trap_kind.Overflow at
+given at DivZero = trap trap_kind.DivZero at
+given at BadLength = trap trap_kind.BadLength at
+given at TooLong = trap trap_kind.TooLong at
+
+abbrev pub applied : {C S : Type 0} → Place → Option Given → Run C S ValueTree
+applied at g = known Kinds g >>= given at
+
+-- ---- `filled`
+
+abbrev pub natural : ℤ → ℕ
+natural (pos n) = n
+natural (negsuc n) = 0
+
+-- so many copies, which are paid once the length has been tested
+abbrev pub filled_with : {C S : Type 0} → Place → ValueTree → ℤ → Run C S ValueTree
+filled_with at v z = given at (filled z v) >>= (λ array. pay (fill_cost (natural z) v) at >>= (λ paid. pure array))
