@@ -18,8 +18,9 @@ use Rattle.hv_copying.specs.Places.{type_of, found, moved}
 use Rattle.hv_copying.specs.Calls.{Placed, Deeper, passed_captures, lent, pass_value, pass_place, entered}
 use Rattle.hv_copying.specs.Evaluate.{value, indices, place_in, args, body_by, activations}
 use Rattle.hv_copying.specs.Copying.{Locals, opened, closed, without, copying}
-use Rattle.hv_copying.specs.InOrder.{Access, shut}
+use Rattle.hv_copying.specs.InOrder.{Access, bare, shut}
 use Rattle.hv_copying.specs.ArgsInOrder.{Argument, Takes, Lends, value_given, place_given, Gathered, gathering, gathered, call_in_order}
+use Rattle.hv_copying.proofs.InOrder.{closed_bare}
 use Rattle.hv_copying.proofs.RunLaws.{bind_assoc, pure_then, then_pure, then_same, first_same}
 
 abbrev Does : Type 0 → Type 0
@@ -120,20 +121,20 @@ referenced m p = refl
 
 -- an access that is open for the rest
 lent_on : (m : ℕ) (mode : Mode) (spot : Spot) (go : Passed → Does Flow) (opens : List Access) →
-    counted_from m (lent copying mode spot go >>= shut opens) ≡ opened m spot >>= (λ begun. counted_from (suc m) (go (Lent m) >>= shut (record { mode = mode; reference = m; spot = spot } ∷ opens)))
+    counted_from m (lent copying mode spot go >>= shut opens) ≡ opened m spot >>= (λ begun. counted_from (suc m) (go (Lent m) >>= shut (record { mode = mode; reference = m; spot = bare spot } ∷ opens)))
 lent_on m mode spot go opens =
     counted_then m (lent copying mode spot go) (shut opens)
     ∙ (first_same _ _ (λ flow. counted_from m (shut opens flow)) (referenced m (λ r. copying.under mode r spot (go (Lent r))))
     ∙ (then_same (counted_from (suc m) (copying.under mode m spot (go (Lent m)))) _ _ (λ flow. free_shut opens flow m ∙ sym (free_shut opens flow (suc m)))
     ∙ (sym (counted_then (suc m) (copying.under mode m spot (go (Lent m))) (shut opens))
     ∙ (ap (counted_from (suc m)) (bind_assoc (opened m spot) _ (shut opens) ∙ then_same (opened m spot) _ _ (λ begun. closing))
-    ∙ (counted_then (suc m) (opened m spot) (λ begun. go (Lent m) >>= shut (record { mode = mode; reference = m; spot = spot } ∷ opens))
+    ∙ (counted_then (suc m) (opened m spot) (λ begun. go (Lent m) >>= shut (record { mode = mode; reference = m; spot = bare spot } ∷ opens))
     ∙ first_same _ _ _ (free_opened m spot (suc m)))))))
   where
-    closing : (go (Lent m) >>= (λ flow. closed mode m spot >>= (λ done. pure flow))) >>= shut opens ≡ go (Lent m) >>= shut (record { mode = mode; reference = m; spot = spot } ∷ opens)
+    closing : (go (Lent m) >>= (λ flow. closed mode m spot >>= (λ done. pure flow))) >>= shut opens ≡ go (Lent m) >>= shut (record { mode = mode; reference = m; spot = bare spot } ∷ opens)
     closing =
         bind_assoc (go (Lent m)) (λ flow. closed mode m spot >>= (λ done. pure flow)) (shut opens)
-        ∙ then_same (go (Lent m)) _ _ (λ flow. bind_assoc (closed mode m spot) (λ done. pure flow) (shut opens) ∙ then_same (closed mode m spot) _ _ (λ done. pure_then flow (shut opens)))
+        ∙ then_same (go (Lent m)) _ _ (λ flow. bind_assoc (closed mode m spot) (λ done. pure flow) (shut opens) ∙ (then_same (closed mode m spot) _ _ (λ done. pure_then flow (shut opens)) ∙ first_same _ _ (λ done. shut opens flow) (sym (closed_bare mode m spot))))
 
 module _ (tree : Core) (locals : List Local) (deeper : Deeper (Unit {0}) Locals) (go : List Passed → Does Flow) (free : (ps : List Passed) → Free (go ps)) where
   -- one argument, and the others by what is known of them
@@ -150,8 +151,8 @@ module _ (tree : Core) (locals : List Local) (deeper : Deeper (Unit {0}) Locals)
       each (Takes a) = h m (ps ++ a ∷ []) opens
       each (Lends mode spot) =
           lent_on m mode spot (λ a. nested (ps ++ a ∷ [])) opens
-          ∙ (then_same (opened m spot) _ _ (λ begun. h (suc m) (ps ++ Lent m ∷ []) (record { mode = mode; reference = m; spot = spot } ∷ opens))
-          ∙ sym (bind_assoc (opened m spot) (λ begun. rest (suc m) (ps ++ Lent m ∷ []) (record { mode = mode; reference = m; spot = spot } ∷ opens)) (finish go)))
+          ∙ (then_same (opened m spot) _ _ (λ begun. h (suc m) (ps ++ Lent m ∷ []) (record { mode = mode; reference = m; spot = bare spot } ∷ opens))
+          ∙ sym (bind_assoc (opened m spot) (λ begun. rest (suc m) (ps ++ Lent m ∷ []) (record { mode = mode; reference = m; spot = bare spot } ∷ opens)) (finish go)))
 
   no_args : (m : ℕ) (ps : List Passed) (opens : List Access) → counted_from m (go ps >>= shut opens) ≡ pure (ps, opens) >>= finish go
   no_args m ps opens = free_then (go ps) (shut opens) (free ps) (free_shut opens) m ∙ sym (pure_then (ps, opens) (finish go))

@@ -1,19 +1,19 @@
 -- A block is its statements in order, whose accesses are closed last.
-use Rattle.std.proofs.Common.{◌≡◌, ◌∙◌, ℕ, List, [], ◌∷◌, ◌++◌, Some, None, sym}
+use Rattle.std.proofs.Common.{◌≡◌, ◌∙◌, refl, ℕ, List, [], ◌∷◌, ◌++◌, Some, None, sym}
 use Rattle.hv_tree.specs.declared.types.Name.{Name}
 use Rattle.hv_tree.specs.Core.{Core, CoreStmts, NoStmts, StmtOf, CoreStmt, Var, VarWith, Let, Inout, Assign, If, While, Return, ReturnWith, Print, Task, AwaitsAlone, CallsAlone, Bare}
 use Rattle.hv_rules.specs.Locals.{Local}
 use Rattle.hv_value.specs.ValueTree.{ValueTree, Fields, Nil}
 use Rattle.hv_value.specs.Texts.{text}
 use Rattle.hv_copying.specs.Run.{Run, Flow, ◌>>=◌, pure, pay, say, unless_left}
-use Rattle.hv_copying.specs.Ops.{Spot, Mode, Reads, Writes}
+use Rattle.hv_copying.specs.Ops.{Spot, Mode, Reads, Writes, Sets}
 use Rattle.hv_copying.specs.Operations.{number}
 use Rattle.hv_copying.specs.Places.{holes, type_of, local, found, declared}
 use Rattle.hv_copying.specs.Calls.{Placed, Deeper, spawned}
 use Rattle.hv_copying.specs.Blocks.{first_token, repeated, bound}
 use Rattle.hv_copying.specs.Evaluate.{value, indices, place_in, call, child, block, choices, statement, statements}
 use Rattle.hv_copying.specs.Copying.{Locals, opened, closed, copying}
-use Rattle.hv_copying.specs.InOrder.{Access, Begun, Over, Opens, shut, over, over_with, opens_for, binds, lets, going, step, in_order}
+use Rattle.hv_copying.specs.InOrder.{Access, bare, Begun, Over, Opens, shut, over, over_with, opens_for, binds, lets, going, step, in_order}
 use Rattle.hv_copying.proofs.RunLaws.{bind_assoc, pure_then, then_pure, then_same, first_same}
 
 abbrev Does : Type 0 → Type 0
@@ -30,10 +30,17 @@ over_on p go = bind_assoc p (λ done. pure (Over None)) (on go) ∙ then_same p 
 over_with_on : (p : Does Flow) (go : Does Flow) → over_with p >>= on go ≡ p >>= unless_left go
 over_with_on p go = bind_assoc p (λ flow. pure (Over flow)) (on go) ∙ then_same p (λ flow. pure (Over flow) >>= on go) (unless_left go) (λ flow. pure_then (Over flow) (on go))
 
+pub closed_bare : (mode : Mode) (r : ℕ) (p : Spot) → closed {C = Unit {0}} mode r (bare p) ≡ closed mode r p
+closed_bare Reads r p = refl
+closed_bare Writes r p = refl
+closed_bare Sets r p = refl
+
 opens_on : (mode : Mode) (r : ℕ) (p : Spot) (go : Does Flow) → opens_for mode r p >>= on go ≡ copying.under mode r p go
 opens_on mode r p go =
-    bind_assoc (opened r p) (λ begun. pure (Opens (record { mode = mode; reference = r; spot = p }))) (on go)
-    ∙ then_same (opened r p) _ _ (λ begun. pure_then (Opens (record { mode = mode; reference = r; spot = p })) (on go))
+    bind_assoc (opened r p) (λ begun. pure (Opens (record { mode = mode; reference = r; spot = bare p }))) (on go)
+    ∙ then_same (opened r p) _ _ (λ begun.
+    pure_then (Opens (record { mode = mode; reference = r; spot = bare p })) (on go)
+    ∙ then_same go _ _ (λ flow. first_same _ _ (λ done. pure flow) (closed_bare mode r p)))
 
 binds_on : (locals : List Local) (name : Name) (mode : Mode) (place : Does (Spot × ValueTree)) (go : Does Flow) → binds locals name mode place >>= on go ≡ place >>= (λ f. local locals name >>= (λ r. copying.under mode r f.0 go))
 binds_on locals name mode place go =

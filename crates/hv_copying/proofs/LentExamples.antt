@@ -1,9 +1,9 @@
--- Programs that lend, move, fill and capture, worked out by hand. A place is told where something is told of it.
+-- Programs that lend, move, fill, capture and spawn, worked out by hand. A place is told where something is told of it.
 use Rattle.std.proofs.Common.{◌≡◌, ℕ, pos, true, List, [], ◌∷◌, Some, None, codes, refl}
 use Rattle.hv_tree.specs.declared.types.Name.{Name}
 use Rattle.hv_tree.specs.declared.types.Conv.TheVariants as conv
 use Rattle.hv_tree.specs.declared.ast.Operator.TheVariants as operator
-use Rattle.hv_tree.specs.Core.{Core, CoreDecl, StructOf, NamedTy, CoreStmt, Print, Var, VarWith, Let, Inout, Assign, If, BranchOf, Else, While, Return, ReturnWith, CallsAlone, CoreExpr, Truth, Array, Lambda, Calls, NoSteps, FieldStep, CallOf, CoreArgs, NoArgs, ValueArg, RefArg, FunToTy, TyOf, NoTys}
+use Rattle.hv_tree.specs.Core.{Core, CoreDecl, StructOf, NamedTy, CoreStmt, Print, Var, VarWith, Let, Inout, Assign, If, BranchOf, Else, While, Return, ReturnWith, Task, CallsAlone, CoreExpr, Truth, Array, Lambda, Calls, NoSteps, FieldStep, CallOf, CoreArgs, NoArgs, ValueArg, RefArg, FunToTy, TyOf, NoTys}
 use Rattle.hv_value.specs.ValueTree as tree
 use Rattle.hv_copying.specs.declared.end.TrapKind.TheVariants as trap_kind
 use Rattle.hv_copying.specs.Node.{Trapped, SpentAt, Id}
@@ -180,3 +180,18 @@ endless = program (fun f [] None (CallsAlone o (call f 11 NoArgs) ∷ []) 15 ∷
 endless_traps : node_of endless 5000 ≡ Some (root 1999 (Trapped trap_kind.TooDeep (at 11) here) [])
 unfolding node_of and_then mine become pure pay trap counted_from
 endless_traps = refl
+
+-- ---- a spawn tests its budget, and then pays it; there is no rule yet for the child
+-- fun f() { } fun main() { task h = spawn(k) f() }
+
+abbrev spawning : CoreExpr → Core
+spawning k = program (fun f [] None [] 11 ∷ (main (Task o (name (codes "h")) None (at 40) k (call f 50 NoArgs) ∷ []) 60 ∷ []))
+
+spawning_traps : node_of (spawning (num 0)) 20 ≡ Some (root 1 (Trapped trap_kind.BadBudget (at 40) here) [])
+unfolding node_of and_then mine become pure pay trap counted_from
+spawning_traps = refl
+
+-- 11 are needed and 10 left
+spawning_spent : node_of (spawning (num 10)) 11 ≡ Some (root 1 (SpentAt (at 40) here) [])
+unfolding node_of and_then mine become pure pay counted_from
+spawning_spent = refl

@@ -14,7 +14,7 @@ use Rattle.hv_copying.specs.Places.{type_of, found, moved}
 use Rattle.hv_copying.specs.Calls.{Placed, Deeper, passed_captures, entered}
 use Rattle.hv_copying.specs.Evaluate.{value, indices, place_in}
 use Rattle.hv_copying.specs.Copying.{Locals, opened, copying}
-use Rattle.hv_copying.specs.InOrder.{Access, shut}
+use Rattle.hv_copying.specs.InOrder.{Access, bare, shut}
 
 -- what an argument comes to
 pub data Argument : Type 0 where
@@ -43,7 +43,7 @@ Gathered = List Passed × List Access
 abbrev pub gathering : ℕ → List Passed → List Access → (ℕ → List Passed → List Access → Run (Unit {0}) Locals Gathered) → Argument → Run (Unit {0}) Locals Gathered
 gathering m ps opens rest (Takes a) = rest m (ps ++ a ∷ []) opens
 gathering m ps opens rest (Lends mode spot) =
-    opened m spot >>= (λ begun. rest (suc m) (ps ++ Lent m ∷ []) (record { mode = mode; reference = m; spot = spot } ∷ opens))
+    opened m spot >>= (λ begun. rest (suc m) (ps ++ Lent m ∷ []) (record { mode = mode; reference = m; spot = bare spot } ∷ opens))
 
 module _ (tree : Core) (locals : List Local) (deeper : Deeper (Unit {0}) Locals) where
   -- the arguments in order, where m references are in use

@@ -14,6 +14,10 @@ use Rattle.hv_copying.specs.Blocks.{first_token, repeated}
 use Rattle.hv_copying.specs.Evaluate.{value, indices, place_in, call, child, block, choices}
 use Rattle.hv_copying.specs.Copying.{Locals, opened, closed, copying}
 
+-- closing goes by the numbers alone
+abbrev pub bare : Spot → Spot
+bare p = record { root = p.root; written = []; path = p.path }
+
 -- an open access: its mode, its reference and its place
 pub record Access : Type 0 where
   pub mode : Mode
@@ -39,7 +43,7 @@ abbrev pub over_with : {C : Type 0} → Run C Locals Flow → Run C Locals Begun
 over_with p = p >>= (λ flow. pure (Over flow))
 
 abbrev pub opens_for : {C : Type 0} → Mode → ℕ → Spot → Run C Locals Begun
-opens_for mode r p = opened r p >>= (λ begun. pure (Opens (record { mode = mode; reference = r; spot = p })))
+opens_for mode r p = opened r p >>= (λ begun. pure (Opens (record { mode = mode; reference = r; spot = bare p })))
 
 abbrev pub binds : {C : Type 0} → List Local → Name → Mode → Run C Locals (Spot × ValueTree) → Run C Locals Begun
 binds locals name mode place = place >>= (λ f. local locals name >>= (λ r. opens_for mode r f.0))
