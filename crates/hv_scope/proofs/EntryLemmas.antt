@@ -115,9 +115,10 @@ restored l m e r = rw (← e) r
 pub push_kept : (l new : List Entry) (e : Entry) (n : ℕ) (t : List ℕ) (was now : List ℕ → Option ℕ) → new ≡ l ++ e ∷ [] → n ≡ length l → t ≡ text_of e.known → e.hides ≡ was t →
     ((q : List ℕ) → was q ≡ place_of (reverse l) q) → Restores (reverse l) → ((q : List ℕ) → now q ≡ cond (bytes_eq t q) (Some n) (was q)) → ((q : List ℕ) → now q ≡ place_of (reverse new) q) × Restores (reverse new)
 push_kept l new e n t was now made size name hides known r put =
-    let back : reverse new ≡ e ∷ reverse l = ap reverse made ∙ stacked l e in
-    (λ q. pushed (reverse l) e q n (was q) (now q) (size ∙ sym (length-reverse l)) (known q) (put q ∙ ap (λ s. cond (bytes_eq s q) (Some n) (was q)) name) ∙ sym (ap (λ m. place_of m q) back),
-    restored (e ∷ reverse l) (reverse new) (sym back) (hides ∙ known t ∙ ap (place_of (reverse l)) name, r))
+    let back : reverse new ≡ e ∷ reverse l = ap reverse made ∙ stacked l e in (
+      λ q. pushed (reverse l) e q n (was q) (now q) (size ∙ sym (length-reverse l)) (known q) (put q ∙ ap (λ s. cond (bytes_eq s q) (Some n) (was q)) name) ∙ sym (ap (λ m. place_of m q) back),
+      restored (e ∷ reverse l) (reverse new) (sym back) (hides ∙ known t ∙ ap (place_of (reverse l)) name, r),
+    )
 
 pub pop_kept : (l new : List Entry) (e : Entry) (w : Option ℕ) (t : List ℕ) (was now : List ℕ → Option ℕ) → l ≡ new ++ e ∷ [] → t ≡ text_of e.known → e.hides ≡ w →
     ((q : List ℕ) → was q ≡ place_of (reverse l) q) → Restores (reverse l) → ((q : List ℕ) → now q ≡ cond (bytes_eq t q) w (was q)) → ((q : List ℕ) → now q ≡ place_of (reverse new) q) × Restores (reverse new)

@@ -20,6 +20,12 @@ module _ {A : Type 0} where
   oldest_next n [] h = absurd (omega (arith, h))
   oldest_next n (x ∷ xs) h = let e : suc (length xs) - n ≡ suc (length xs - n) = omega (arith, h) in sym (ap (λ k. drop k (x ∷ xs)) e)
 
+  pub oldest_one : (x : A) (xs : List A) → oldest (length xs) (x ∷ xs) ≡ xs
+  oldest_one x xs = oldest_below (x ∷ []) xs
+
+  pub oldest_same : (xs : List A) → oldest (length xs) xs ≡ xs
+  oldest_same xs = oldest_below [] xs
+
   dropped : (m k : ℕ) (xs : List A) → drop (m + k) xs ≡ drop k (drop m xs)
   dropped zero k xs = let e : 0 + k ≡ k = omega arith in ap (λ j. drop j xs) e
   dropped (suc m) k [] = drop-nil {A = A} (suc m + k) ∙ sym (drop-nil {A = A} k)

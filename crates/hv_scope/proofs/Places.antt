@@ -1,9 +1,10 @@
 -- What is found at the first place of its name.
-use Rattle.std.proofs.Common.{◌≡◌, ℕ, zero, suc, Bool, true, false, if◌then◌else◌, List, [], ◌∷◌, length, map, ◌<◌, Option, Some, None, refl, sym, ap, ◌∙◌, arith}
+use Rattle.std.proofs.Common.{◌≡◌, ℕ, zero, suc, Bool, true, false, if◌then◌else◌, List, [], ◌∷◌, length, map, ◌<◌, Bor, Option, Some, None, refl, sym, ap, ◌∙◌, arith}
 use Rattle.std.specs.Str.{bytes_eq}
 use Rattle.std.specs.List.{slice_get}
 use Rattle.std.specs.Option.{option_map}
 use Rattle.std.proofs.lemmas.Option.{slice_get-map}
+use Rattle.std.proofs.lemmas.Simd.{map-map}
 use Rattle.std.specs.Cmp.Lexicographic.{nat_list_eq_equiv}
 use Rattle.hv_tree.specs.declared.ast.Field.{Field}
 use Rattle.hv_tree.specs.declared.ast.Decl.{Decl}
@@ -151,6 +152,17 @@ pub struct_numbered : (decls : List Decl) (q : List ℕ) → struct_number (map 
 unfolding index_of
 struct_numbered decls q = ap (λ ss. struct_from 0 ss q) (structs_same decls) ∙ struct_from_placed 0 (struct_decls decls) q
 
+-- by the structs, as they are kept beside the program
+pub structs_kept : (bs : List (Bor StructDecl)) (ss : List StructDecl) (decls : List Decl) → map (λ (d : Bor StructDecl). d.now) bs ≡ ss → ss ≡ struct_decls decls → map (λ (d : Bor StructDecl). core_struct d.now) bs ≡ structs_in (map core_decl decls)
+structs_kept bs ss decls e f = sym (map-map core_struct (λ (d : Bor StructDecl). d.now) bs) ∙ ap (map core_struct) (e ∙ f) ∙ sym (structs_same decls)
+
+pub struct_kept : (ss : List StructDecl) (decls : List Decl) (q : List ℕ) (o : Option ℕ) (s : Option StructDecl) → ss ≡ struct_decls decls → o ≡ index_of (map name_of_struct ss) q → s ≡ got o ss → option_struct s ≡ struct_in (map core_decl decls) q
+struct_kept ss decls q o s e f g =
+    ap option_struct (g ∙ ap (λ p. got p ss) f ∙ ap (λ l. got (index_of (map name_of_struct l) q) l) e) ∙ sym (struct_placed decls q)
+
+pub struct_number_kept : (ss : List StructDecl) (decls : List Decl) (q : List ℕ) (o : Option ℕ) → ss ≡ struct_decls decls → o ≡ index_of (map name_of_struct ss) q → o ≡ struct_number (map core_decl decls) q
+struct_number_kept ss decls q o e f = f ∙ ap (λ l. index_of (map name_of_struct l) q) e ∙ sym (struct_numbered decls q)
+
 -- the fields of a struct that may lack
 pub fields_same : (o : Option StructDecl) → fields_or_none (option_struct o) ≡ map core_field (fields_of o)
 fields_same None = refl
@@ -160,6 +172,13 @@ pub fields_placed : (decls : List Decl) (of q : List ℕ) →
     field_from 0 (fields_or_none (struct_in (map core_decl decls) of)) q ≡ field_from 0 (map core_field (fields_of (got (index_of (map name_of_struct (struct_decls decls)) of) (struct_decls decls)))) q
 fields_placed decls of q =
     ap (λ s. field_from 0 (fields_or_none s) q) (struct_placed decls of) ∙ ap (λ fs. field_from 0 fs q) (fields_same (got (index_of (map name_of_struct (struct_decls decls)) of) (struct_decls decls)))
+
+pub field_of_kept : (ss : List StructDecl) (decls : List Decl) (of q : List ℕ) (o : Option ℕ) → ss ≡ struct_decls decls → o ≡ index_of (map name_of_struct ss) of →
+    field_from 0 (map core_field (fields_of (got o ss))) q ≡ field_from 0 (fields_or_none (struct_in (map core_decl decls) of)) q
+field_of_kept ss decls of q o e f =
+    ap (λ p. field_from 0 (map core_field (fields_of (got p ss))) q) f
+    ∙ ap (λ l. field_from 0 (map core_field (fields_of (got (index_of (map name_of_struct l) of) l))) q) e
+    ∙ sym (fields_placed decls of q)
 
 -- ---- functions
 

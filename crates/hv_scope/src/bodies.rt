@@ -11,8 +11,8 @@ use crate::bound::{captures_of, push_bound, visible_first};
 use crate::known::Known;
 use crate::visible::Visible;
 use hv_tree::{
-    Arg, Block, Branch, Call, Decl, Expr, ExprKind, FunDecl, Operator, Param, Place, Step,
-    Stmt, StmtKind, Tree, Ty,
+    Arg, Block, Branch, Call, Decl, Expr, ExprKind, FunDecl, Operator, Param, Place, Step, Stmt,
+    StmtKind, Tree, Ty,
 };
 use std::alloc::{AllocError as NoMemory, Global};
 
@@ -213,7 +213,7 @@ fn add_stmts<'t>(
     stmts: &'t [Stmt],
 ) -> Result<(), NoMemory>
     ensures bodies { OnOk result (map spec.body_by bodies.new.items ≡ map spec.body_by bodies.old.items ++ spec.stmts_bodies (map local_by visible.old) (core_stmts stmts.now)) }
-    ensures kept { OnOk result (take (length visible.old.items) visible.new ≡ visible.old) }
+    ensures kept { OnOk result (oldest (length visible.old) visible.new ≡ visible.old) }
 {
     for stmt in stmts {
         add_stmt(alloc, visible, bodies, stmt)?;
@@ -236,12 +236,7 @@ fn add_stmt<'t>(
     match &stmt.kind {
         StmtKind::Var(_, _, value) => add_value(alloc, visible, bodies, value),
         StmtKind::Let(_, _, value) => add_expr(alloc, visible, bodies, value),
-        StmtKind::Inout(_, _, place) => add_steps(
-            alloc,
-            visible,
-            bodies,
-            place.steps.as_slice(),
-        ),
+        StmtKind::Inout(_, _, place) => add_steps(alloc, visible, bodies, place.steps.as_slice()),
         StmtKind::Assign(place, value) => {
             add_steps(alloc, visible, bodies, place.steps.as_slice())?;
             add_expr(alloc, visible, bodies, value)

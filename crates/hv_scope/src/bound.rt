@@ -11,21 +11,24 @@ use crate::visible::Visible;
 use hv_tree::{Name, Param, Stmt, StmtKind, Ty};
 use std::alloc::{AllocError as NoMemory, Global};
 
+#[tactic(auto, using(crate::proofs::OldestLemmas::oldest_one))]
 fn bind<'t>(
     visible: &mut Visible<'t>,
     kind: Kind,
     name: &'t Name,
     ty: Option<&'t Ty>,
 ) -> Result<(), NoMemory>
-    ensures { OnOk result (map local_by visible.new ≡ declared_by kind name.now ty.entry ∷ map local_by visible.old) }
+    ensures seen { OnOk result (map local_by visible.new ≡ declared_by kind name.now ty.entry ∷ map local_by visible.old) }
+    ensures kept { OnOk result (oldest (length visible.old) visible.new ≡ visible.old) }
 {
     visible.push(Known { name, kind, ty })
 }
 
 /// The local that a statement declares is visible behind it.
-#[tactic(auto, using(crate::proofs::BindLemmas::binds_var, crate::proofs::BindLemmas::binds_let, crate::proofs::BindLemmas::binds_inout, crate::proofs::BindLemmas::binds_task, crate::proofs::BindLemmas::binds_assign, crate::proofs::BindLemmas::binds_if, crate::proofs::BindLemmas::binds_while, crate::proofs::BindLemmas::binds_return, crate::proofs::BindLemmas::binds_print, crate::proofs::BindLemmas::binds_await, crate::proofs::BindLemmas::binds_call, crate::proofs::BindLemmas::binds_block))]
-fn bind_stmt<'t>(visible: &mut Visible<'t>, stmt: &'t Stmt) -> Result<(), NoMemory>
-    ensures { OnOk result (map local_by visible.new ≡ listed (binds (core_stmt stmt.now)) ++ map local_by visible.old) }
+#[tactic(auto, using(crate::proofs::OldestLemmas::oldest_same, crate::proofs::BindLemmas::binds_var, crate::proofs::BindLemmas::binds_let, crate::proofs::BindLemmas::binds_inout, crate::proofs::BindLemmas::binds_task, crate::proofs::BindLemmas::binds_assign, crate::proofs::BindLemmas::binds_if, crate::proofs::BindLemmas::binds_while, crate::proofs::BindLemmas::binds_return, crate::proofs::BindLemmas::binds_print, crate::proofs::BindLemmas::binds_await, crate::proofs::BindLemmas::binds_call, crate::proofs::BindLemmas::binds_block))]
+pub fn push_bound<'t>(visible: &mut Visible<'t>, stmt: &'t Stmt) -> Result<(), NoMemory>
+    ensures seen { OnOk result (map local_by visible.new ≡ listed (binds (core_stmt stmt.now)) ++ map local_by visible.old) }
+    ensures kept { OnOk result (oldest (length visible.old) visible.new ≡ visible.old) }
 {
     match &stmt.kind {
         StmtKind::Var(name, ty, _) => bind(visible, Kind::Var, name, Some(ty)),
@@ -41,15 +44,6 @@ fn bind_stmt<'t>(visible: &mut Visible<'t>, stmt: &'t Stmt) -> Result<(), NoMemo
         StmtKind::Call(_) => Ok(()),
         StmtKind::Block(_) => Ok(()),
     }
-}
-
-/// The local that a statement declares is visible behind it.
-#[tactic(auto, using(crate::proofs::OldestLemmas::oldest_below))]
-pub fn push_bound<'t>(visible: &mut Visible<'t>, stmt: &'t Stmt) -> Result<(), NoMemory>
-    ensures seen { OnOk result (map local_by visible.new ≡ listed (binds (core_stmt stmt.now)) ++ map local_by visible.old) }
-    ensures kept { OnOk result (oldest (length visible.old) visible.new ≡ visible.old) }
-{
-    bind_stmt(visible, stmt)
 }
 
 fn capture_of<'t>(visible: &Visible<'t>, name: &'t Name) -> Known<'t>
