@@ -22,7 +22,7 @@ use Rattle.hv_tree.specs.declared.ast.Arg.TheVariants as arg
 use Rattle.hv_tree.specs.declared.ast.Arg.TheOpen.{Arg-F, Step-F}
 use Rattle.hv_tree.specs.Core.{CoreSteps, NoSteps, CoreArgs, NoArgs, core_of, core_step, core_steps, core_place, core_arg, core_args, core_exprs, core_links, core_call, core_param, core_block, core_stmts, core_stmt, core_branches}
 use Rattle.hv_tree.proofs.CoreLemmas as lemmas
-use Rattle.hv_rules.specs.Locals.{Local, param_local}
+use Rattle.hv_rules.specs.Locals.{Local, param_local, binds, listed}
 use Rattle.hv_rules.specs.Sites.{capture_local}
 use Rattle.hv_scope.specs.Bodies as spec
 use Rattle.hv_scope.proofs.Firsts.{first_left}
@@ -169,3 +169,7 @@ module _ (v : List Local) where
 
   pub stmt_block : (s : Stmt) (b : Block) → (out-Stmt s).kind ≡ stmt.Block b → spec.stmt_bodies v (core_stmt s) ≡ spec.block_bodies v (core_block b)
   stmt_block s b h = ap (spec.stmt_bodies v) (lemmas.stmt_block s b h)
+
+  pub stmts_next : (stmts : List Stmt) (i : ℕ) (s : Stmt) → i < length stmts → s ≡ get_or stmts i s →
+      spec.stmts_bodies v (core_stmts (drop i stmts)) ≡ spec.stmt_bodies v (core_stmt s) ++ spec.stmts_bodies (listed (binds (core_stmt s)) ++ v) (core_stmts (drop (i + 1) stmts))
+  stmts_next stmts i s within is = ap (λ w. spec.stmts_bodies v (core_stmts w)) (first_left stmts i s within is)

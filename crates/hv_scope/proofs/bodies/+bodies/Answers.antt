@@ -1,9 +1,13 @@
-use Rattle.std.proofs.Common.{map, arith}
+use Rattle.std.proofs.Common.{◌≡◌, ◌+◌, ◌++◌, drop, length, map, refl, sym, ap, ◌∙◌, arith}
 use Rattle.std.proofs.lemmas.Grind.{common_steps}
+use Rattle.hv_tree.specs.Core.{core_stmt, core_stmts}
+use Rattle.hv_rules.specs.Locals.{binds, listed}
 use Rattle.hv_scope.specs.Known.{local_by}
-use Rattle.hv_scope.specs.Bodies.{body_by}
+use Rattle.hv_scope.specs.Oldest.{oldest}
+use Rattle.hv_scope.specs.Bodies.{body_by, stmt_bodies, stmts_bodies}
 use Rattle.hv_scope.proofs.Added.{extended, nothing_added}
 use Rattle.hv_scope.proofs.BodyVariants as parts
+use Rattle.hv_scope.proofs.OldestLemmas.{oldest_same, oldest_twice}
 use Rattle.hv_scope.proofs.bodies.+bodies.Goals as goal
 
 pub add_args-loop-arg-preserved : goal.add_args-loop-arg-preserved
@@ -59,3 +63,18 @@ add_stmt-returns-in_ok-add_expr-in-Task-clause-bodies t c =
 
 pub add_stmt-returns-in-Await-clause-bodies : goal.add_stmt-returns-in-Await-clause-bodies
 add_stmt-returns-in-Await-clause-bodies t c = nothing_added (map body_by c.args.bodies.now.items) _ (parts.stmt_await (map local_by c.args.visible.now) c.args.stmt.now c.in-Await.field-0 c.in-Await.is)
+
+pub add_stmts-loop-stmt-init : goal.add_stmts-loop-stmt-init
+add_stmts-loop-stmt-init t c = (refl, oldest_same c.args.visible.now)
+
+pub add_stmts-loop-stmt-preserved : goal.add_stmts-loop-stmt-preserved
+add_stmts-loop-stmt-preserved t c =
+    let seen = map local_by c.loop-stmt.visible in
+    let behind = stmts_bodies (listed (binds (core_stmt c.stmt-item.result)) ++ seen) (core_stmts (drop (c.loop-stmt.stmt-index + 1) c.args.stmts.now)) in
+    let same : behind ≡ stmts_bodies (map local_by c.push_bound.new.visible) (core_stmts (drop (c.loop-stmt.stmt-index + 1) c.args.stmts.now)) =
+    ap (λ v. stmts_bodies v (core_stmts (drop (c.loop-stmt.stmt-index + 1) c.args.stmts.now)))
+    (sym (c.in_ok-push_bound.ensures.seen ∙ ap (λ v. listed (binds (core_stmt c.stmt-item.result)) ++ map local_by v) c.in_ok-add_stmt.ensures.visible)) in (
+      extended (map body_by c.loop-stmt.bodies.items) (map body_by c.add_stmt.new.bodies.items) _ _ _ _ c.in_ok-add_stmt.ensures.bodies
+          (parts.stmts_next seen c.args.stmts.now c.loop-stmt.stmt-index c.stmt-item.result c.loop-stmt-test.true c.stmt-item.is ∙ ap (λ l. stmt_bodies seen (core_stmt c.stmt-item.result) ++ l) same) c.loop-stmt.invariant.0,
+      oldest_twice c.args.visible.now c.loop-stmt.visible c.push_bound.new.visible (let e = c.in_ok-add_stmt.ensures.visible in let k = c.in_ok-push_bound.ensures.kept in ap (λ v. oldest (length v) c.push_bound.new.visible) (sym e) ∙ k ∙ e) c.loop-stmt.invariant.1,
+    )
