@@ -8,10 +8,11 @@ use Rattle.hv_flow.specs.Graphs.{node_of, extend_at, linked, built, next_of, Amo
 use Rattle.hv_tree.specs.declared.place.Place.{Place}
 use Rattle.hv_rules.specs.Events.{Mark, Events}
 use Rattle.hv_rules.specs.Flow.{IsTrace}
-use Rattle.hv_flow.specs.declared.plan.FlowOp.{FlowOp}
-use Rattle.hv_flow.specs.Acts.{act_of, acts_of, plan_of}
+use Rattle.hv_plan.specs.declared.plan.FlowOp.{FlowOp}
+use Rattle.hv_flow.specs.Acts.{act_of, acts_of}
+use Rattle.hv_plan.specs.Spelling.{entered, plan_of}
 use Rattle.hv_flow.specs.Reading.{read_all}
-use Rattle.hv_flow.specs.Walks.{Walk, IsFullWalk, EndsAlone, entry, entered, Traces, IsGraph}
+use Rattle.hv_flow.specs.Walks.{Walk, IsFullWalk, EndsAlone, entry, Traces, IsGraph}
 use Rattle.hv_flow.specs.Walks as walks
 use Rattle.hv_flow.proofs.Shown.{Marked, map_two, whole_shown, whole_marked, alone_shown}
 use Rattle.hv_flow.proofs.ReadingLemmas.{read_plan}

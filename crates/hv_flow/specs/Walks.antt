@@ -5,7 +5,7 @@ use Rattle.hv_rules.specs.declared.event.FlowEvent.TheVariants as event
 use Rattle.hv_rules.specs.Flow.{Flow, Skip, Do, Stop, Then, Either, Loop, IsWhole, IsTrace}
 use Rattle.hv_tree.specs.Core.{Core}
 use Rattle.hv_rules.specs.Locals.{CoreBody}
-use Rattle.hv_rules.specs.Events.{Mark, mark, Events, end_of, body_events}
+use Rattle.hv_rules.specs.Events.{Mark, Events, end_of, body_events}
 use Rattle.hv_flow.specs.declared.nodes.Node.{Node}
 use Rattle.hv_flow.specs.Acts.{Act, act_of}
 use Rattle.hv_flow.specs.Graphs.{next_of, Edge, ActAt}
@@ -24,10 +24,6 @@ pub record IsFullWalk (ns : List Node) (es : List Act) : Type 0 where
 -- the entry of a body, at this place
 abbrev pub entry : Place → Act
 entry at = record { event = event.Entry; place = at }
-
--- what a body does, after its entry
-abbrev pub entered : Place → Events → Events
-entered at f = Then (Do (mark event.Entry at)) f
 
 -- what is walked after the entry is a whole trace
 pub record Traces (at : Place) (f : Events) (es : List Act) : Type 0 where

@@ -3,7 +3,7 @@ ghost use Rattle.std.specs.Prelude.{◌≡◌, ◌++◌, ◌+◌, map, length, s
 ghost use Rattle.hv_tree.specs.Core.{core_block, core_tree};
 ghost use Rattle.hv_rules.specs.Locals.{CoreBody, entry_locals};
 ghost use Rattle.hv_rules.specs.Events as events;
-ghost use Rattle.hv_flow.specs.Acts.{plan_of};
+ghost use Rattle.hv_plan.specs.Spelling.{plan_of};
 ghost use Rattle.hv_flow.specs.Scopes.{local_by, kind_of, tree_in, locals_in};
 ghost use Rattle.hv_flow.specs.BodyPlans.{body_plan, stmts_plan};
 ghost use Rattle.hv_rules.specs.Sites.{bodies_of};

@@ -2,8 +2,8 @@
 ghost use Rattle.std.specs.Prelude.{◌≡◌, ◌++◌, ◌∷◌, [], if◌then◌else◌, IfOk, OnOk, length};
 ghost use Rattle.hv_tree.specs.declared.place.Place.{Place};
 ghost use Rattle.hv_rules.specs.Events.{Events};
-ghost use Rattle.hv_flow.specs.Acts.{plan_of};
-ghost use Rattle.hv_flow.specs.Walks.{EndsAlone, IsGraph, entered};
+ghost use Rattle.hv_plan.specs.Spelling.{plan_of};
+ghost use Rattle.hv_flow.specs.Walks.{EndsAlone, IsGraph};
 ghost use Rattle.hv_flow.specs.Graphs.{extend_at, linked, new_node, nothing, then_part, either_part, loop_part};
 ghost use Rattle.hv_flow.specs.Reading.{given, read, read_all};
 

@@ -1,5 +1,4 @@
-use Rattle.std.proofs.Common.{◌≡◌, Some, None, refl, sym, ap, ◌∙◌}
-use Rattle.std.specs.Option.{option_copied}
+use Rattle.std.proofs.Common.{◌≡◌, ap, ◌∙◌}
 use Rattle.hv_tree.specs.declared.ast.Tree.{Tree}
 use Rattle.hv_scope.specs.Tops.{struct_decls}
 use Rattle.hv_scope.proofs.Places.{struct_number_kept}

@@ -1,4 +1,4 @@
-use Rattle.std.proofs.Common.{Some, None, sym, ap, ◌∙◌, refl}
+use Rattle.std.proofs.Common.{Some, None, sym, ◌∙◌, refl}
 use Rattle.std.specs.Option.{option_copied}
 use Rattle.hv_scope.specs.Tops.{name_of_fun}
 use Rattle.hv_scope.proofs.Places.{first_kept}

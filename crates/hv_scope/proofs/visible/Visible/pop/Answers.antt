@@ -1,6 +1,4 @@
-use Rattle.std.proofs.Common.{Some, None, sym, ap, ◌∙◌, List, ℕ}
-use Rattle.std.specs.HashMap.{get_by}
-use Rattle.std.specs.Str.{bytes_eq}
+use Rattle.std.proofs.Common.{Some, None}
 use Rattle.std.proofs.lemmas.Map.Text.{hash_map_updates_str}
 use Rattle.hv_scope.proofs.EntryLemmas.{pop_kept, was_there}
 use Rattle.hv_scope.proofs.visible.Visible.pop.Goals as goal

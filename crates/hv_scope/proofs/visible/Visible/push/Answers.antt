@@ -1,4 +1,4 @@
-use Rattle.std.proofs.Common.{Some, None, sym, ap, ◌∙◌}
+use Rattle.std.proofs.Common.{◌∙◌}
 use Rattle.std.proofs.lemmas.Map.Text.{hash_map_updates_str}
 use Rattle.hv_scope.proofs.EntryLemmas.{push_kept}
 use Rattle.hv_scope.proofs.visible.Visible.push.Goals as goal

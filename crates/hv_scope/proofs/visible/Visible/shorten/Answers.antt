@@ -1,5 +1,4 @@
 use Rattle.std.proofs.Common.{◌≡◌, ◌<◌, ◌≤◌, length, sym, ap, ◌∙◌, arith}
-use Rattle.std.proofs.lemmas.List.{length-map, length-reverse}
 use Rattle.hv_scope.specs.Oldest.{oldest}
 use Rattle.hv_scope.proofs.OldestLemmas.{oldest_all, oldest_next}
 use Rattle.hv_scope.proofs.EntryLemmas.{length_seen}
