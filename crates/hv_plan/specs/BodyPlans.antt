@@ -15,6 +15,5 @@ abbrev pub stmts_plan : Core → List Local → ℕ → Block → List FlowOp
 stmts_plan tree locals n b = op.Then ∷ (plan_stmts tree locals n (out-Block b).stmts ++ op.Do (event.ScopeEnd n) (out-Block b).end ∷ [])
 
 -- the entry, the captures and parameters, and the block
-abbrev pub body_plan : Core → List Local → Block → List FlowOp
-body_plan tree entry b =
-    op.Then ∷ (op.Do event.Entry (out-Block b).end ∷ (op.Then ∷ (plan_of (events.entry_events 0 entry) ++ stmts_plan tree (entry ++ in_stmts (core_stmts (out-Block b).stmts)) (length entry) b)))
+abbrev pub body_plan : Core → List Local → List Local → Block → List FlowOp
+body_plan tree entry locals b = op.Then ∷ (op.Do event.Entry (out-Block b).end ∷ (op.Then ∷ (plan_of (events.entry_events 0 entry) ++ stmts_plan tree locals (length entry) b)))

@@ -10,18 +10,19 @@ ghost use Rattle.hv_plan.specs.Scopes.{tree_in, locals_in, callee_by};
 ghost use Rattle.hv_plan.specs.Plans as plans;
 
 use crate::doing::{Doing, Way, done, given, is_short, lent, opens};
+use crate::paths::{Callee, called_place, next_conv, static_steps};
 use crate::plan::FlowOp;
-use crate::scope::{Scope, find, value_type};
-use crate::types::{Callee, called_place, next_conv, static_steps};
+use crate::scope::{Scope, find};
 use hv_items::Items;
 use hv_rules::{FlowEvent, StaticPath};
+use hv_scope::value_type;
 use hv_tree::{Arg, Call, Conv, Expr, ExprKind, Name, Operator, Place, PlaceExpr, Step};
 use std::alloc::{AllocError as NoMemory, Global};
 
 /// What is done with the place, where its root is a local.
-pub fn push_root<'t>(
+pub fn push_root<'s, 't>(
     alloc: Global,
-    scope: &Scope<'t>,
+    scope: &Scope<'s, 't>,
     plan: &mut Items<FlowOp>,
     doing: Doing,
     root: &Name,
@@ -32,7 +33,7 @@ pub fn push_root<'t>(
     let Some((number, known)) = find(scope, root) else {
         return plan.push(FlowOp::Skip);
     };
-    let steps = static_steps(alloc, scope.tree, value_type(&known), steps)?;
+    let steps = static_steps(alloc, scope.declared, value_type(&known), steps)?;
     let Ok(root_number) = u32::try_from(number) else {
         return Err(NoMemory);
     };
@@ -43,8 +44,8 @@ pub fn push_root<'t>(
     plan.push(FlowOp::Do(done(doing, path), root.place))
 }
 
-pub fn push_await<'t>(
-    scope: &Scope<'t>,
+pub fn push_await<'s, 't>(
+    scope: &Scope<'s, 't>,
     plan: &mut Items<FlowOp>,
     handle: &Name,
     at: Place,
@@ -60,9 +61,9 @@ pub fn push_await<'t>(
     plan.push(FlowOp::Do(FlowEvent::Await(number), at))
 }
 
-fn push_captured<'t>(
+fn push_captured<'s, 't>(
     alloc: Global,
-    scope: &Scope<'t>,
+    scope: &Scope<'s, 't>,
     plan: &mut Items<FlowOp>,
     captures: &[Name],
 ) -> Result<(), NoMemory>
@@ -95,7 +96,7 @@ fn one_if(stays: bool) -> usize
 
 /// Whether the expression is a place whose root is a local.
 #[tactic(auto, using(crate::proofs::ExprPlans::place_opened, crate::proofs::ExprPlans::place_path), unfolding(crate::proofs::ExprPlans::place_by))]
-fn is_place<'t>(scope: &Scope<'t>, x: &Expr) -> bool
+fn is_place<'s, 't>(scope: &Scope<'s, 't>, x: &Expr) -> bool
     ensures { result ≡ events.is_place (tree_in scope.now) (locals_in scope.now) (core_of x.now) }
 {
     match &x.kind {
@@ -104,7 +105,7 @@ fn is_place<'t>(scope: &Scope<'t>, x: &Expr) -> bool
     }
 }
 
-fn is_local<'t>(scope: &Scope<'t>, name: &Name) -> bool
+fn is_local<'s, 't>(scope: &Scope<'s, 't>, name: &Name) -> bool
     ensures { result ≡ events.is_local (tree_in scope.now) (locals_in scope.now) (number_in (locals_in scope.now) name.now.text) }
 {
     match find(scope, name) {
@@ -115,9 +116,9 @@ fn is_local<'t>(scope: &Scope<'t>, name: &Name) -> bool
 
 #[cycle(exprs)]
 #[tactic(auto, using(crate::proofs::ExprPlans::expr_int, crate::proofs::ExprPlans::expr_bool, crate::proofs::ExprPlans::expr_path, crate::proofs::ExprPlans::expr_call, crate::proofs::ExprPlans::expr_await, crate::proofs::ExprPlans::expr_array_lit, crate::proofs::ExprPlans::expr_filled, crate::proofs::ExprPlans::expr_count, crate::proofs::ExprPlans::expr_lambda, crate::proofs::ExprPlans::expr_prefix, crate::proofs::ExprPlans::expr_chain))]
-pub fn push_expr<'t>(
+pub fn push_expr<'s, 't>(
     alloc: Global,
-    scope: &Scope<'t>,
+    scope: &Scope<'s, 't>,
     plan: &mut Items<FlowOp>,
     doing: Doing,
     x: &Expr,
@@ -150,9 +151,9 @@ pub fn push_expr<'t>(
 }
 
 #[cycle(exprs)]
-fn push_parts<'t>(
+fn push_parts<'s, 't>(
     alloc: Global,
-    scope: &Scope<'t>,
+    scope: &Scope<'s, 't>,
     plan: &mut Items<FlowOp>,
     parts: &[Expr],
 ) -> Result<(), NoMemory>
@@ -166,9 +167,9 @@ fn push_parts<'t>(
 }
 
 #[cycle(exprs)]
-fn push_links<'t>(
+fn push_links<'s, 't>(
     alloc: Global,
-    scope: &Scope<'t>,
+    scope: &Scope<'s, 't>,
     plan: &mut Items<FlowOp>,
     links: &[(Operator, Place, Expr)],
 ) -> Result<(), NoMemory>
@@ -182,9 +183,9 @@ fn push_links<'t>(
 
 // An operand that `&&` or `||` may leave out.
 #[cycle(exprs)]
-fn push_link<'t>(
+fn push_link<'s, 't>(
     alloc: Global,
-    scope: &Scope<'t>,
+    scope: &Scope<'s, 't>,
     plan: &mut Items<FlowOp>,
     operator: Operator,
     operand: &Expr,
@@ -200,9 +201,9 @@ fn push_link<'t>(
 }
 
 #[cycle(exprs)]
-fn push_indices<'t>(
+fn push_indices<'s, 't>(
     alloc: Global,
-    scope: &Scope<'t>,
+    scope: &Scope<'s, 't>,
     plan: &mut Items<FlowOp>,
     steps: &[Step],
 ) -> Result<(), NoMemory>
@@ -216,9 +217,9 @@ fn push_indices<'t>(
 
 #[cycle(exprs)]
 #[tactic(auto, using(crate::proofs::ExprPlans::index_field, crate::proofs::ExprPlans::index_index))]
-fn push_index<'t>(
+fn push_index<'s, 't>(
     alloc: Global,
-    scope: &Scope<'t>,
+    scope: &Scope<'s, 't>,
     plan: &mut Items<FlowOp>,
     step: &Step,
 ) -> Result<(), NoMemory>
@@ -234,9 +235,9 @@ fn push_index<'t>(
 }
 
 #[cycle(exprs)]
-pub fn push_place<'t>(
+pub fn push_place<'s, 't>(
     alloc: Global,
-    scope: &Scope<'t>,
+    scope: &Scope<'s, 't>,
     plan: &mut Items<FlowOp>,
     doing: Doing,
     place: &PlaceExpr,
@@ -257,9 +258,9 @@ pub fn push_place<'t>(
 
 #[cycle(exprs)]
 #[tactic(auto, using(crate::proofs::ExprPlans::call_opened))]
-pub fn push_call<'t>(
+pub fn push_call<'s, 't>(
     alloc: Global,
-    scope: &Scope<'t>,
+    scope: &Scope<'s, 't>,
     plan: &mut Items<FlowOp>,
     way: Way,
     call: &Call,
@@ -281,9 +282,9 @@ pub fn push_call<'t>(
 }
 
 #[cycle(exprs)]
-fn push_args<'t>(
+fn push_args<'s, 't>(
     alloc: Global,
-    scope: &Scope<'t>,
+    scope: &Scope<'s, 't>,
     plan: &mut Items<FlowOp>,
     way: Way,
     at: Place,
@@ -305,9 +306,9 @@ fn push_args<'t>(
 
 // An argument, and whether it has an access that closes behind the last one.
 #[cycle(exprs)]
-fn push_arg<'t>(
+fn push_arg<'s, 't>(
     alloc: Global,
-    scope: &Scope<'t>,
+    scope: &Scope<'s, 't>,
     plan: &mut Items<FlowOp>,
     way: Way,
     at: Place,
@@ -334,9 +335,9 @@ fn push_arg<'t>(
 // What is done with an argument, and whether that opens an access.
 #[cycle(exprs)]
 #[tactic(auto, using(crate::proofs::ExprPlans::arg_value, crate::proofs::ExprPlans::arg_ref, crate::proofs::ExprPlans::opens_value, crate::proofs::ExprPlans::opens_ref))]
-fn push_given<'t>(
+fn push_given<'s, 't>(
     alloc: Global,
-    scope: &Scope<'t>,
+    scope: &Scope<'s, 't>,
     plan: &mut Items<FlowOp>,
     way: Way,
     conv: Option<Conv>,

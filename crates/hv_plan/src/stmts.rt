@@ -40,9 +40,9 @@ pub fn push_declared(
     Ok(())
 }
 
-fn push_var<'t>(
+fn push_var<'s, 't>(
     alloc: Global,
-    scope: &Scope<'t>,
+    scope: &Scope<'s, 't>,
     plan: &mut Items<FlowOp>,
     next: &mut u32,
     name: &Name,
@@ -65,9 +65,9 @@ fn push_var<'t>(
     }
 }
 
-fn push_let<'t>(
+fn push_let<'s, 't>(
     alloc: Global,
-    scope: &Scope<'t>,
+    scope: &Scope<'s, 't>,
     plan: &mut Items<FlowOp>,
     next: &mut u32,
     name: &Name,
@@ -81,9 +81,9 @@ fn push_let<'t>(
     push_declared(alloc, plan, next, name)
 }
 
-fn push_inout<'t>(
+fn push_inout<'s, 't>(
     alloc: Global,
-    scope: &Scope<'t>,
+    scope: &Scope<'s, 't>,
     plan: &mut Items<FlowOp>,
     next: &mut u32,
     name: &Name,
@@ -97,9 +97,9 @@ fn push_inout<'t>(
     push_declared(alloc, plan, next, name)
 }
 
-fn push_assign<'t>(
+fn push_assign<'s, 't>(
     alloc: Global,
-    scope: &Scope<'t>,
+    scope: &Scope<'s, 't>,
     plan: &mut Items<FlowOp>,
     place: &PlaceExpr,
     value: &Expr,
@@ -111,9 +111,9 @@ fn push_assign<'t>(
     push_place(alloc, scope, plan, Doing::Init, place)
 }
 
-fn push_return<'t>(
+fn push_return<'s, 't>(
     alloc: Global,
-    scope: &Scope<'t>,
+    scope: &Scope<'s, 't>,
     plan: &mut Items<FlowOp>,
     at: Place,
     value: &Option<Expr>,
@@ -127,9 +127,9 @@ fn push_return<'t>(
     plan.push(FlowOp::Stop(FlowEvent::Return, at))
 }
 
-fn push_task<'t>(
+fn push_task<'s, 't>(
     alloc: Global,
-    scope: &Scope<'t>,
+    scope: &Scope<'s, 't>,
     plan: &mut Items<FlowOp>,
     next: &mut u32,
     spawn: Place,
@@ -150,9 +150,9 @@ fn push_task<'t>(
 
 #[cycle(stmts)]
 #[tactic(auto, using(crate::proofs::VariantPlans::stmt_var, crate::proofs::VariantPlans::stmt_let, crate::proofs::VariantPlans::stmt_inout, crate::proofs::VariantPlans::stmt_assign, crate::proofs::VariantPlans::stmt_if, crate::proofs::VariantPlans::stmt_while, crate::proofs::VariantPlans::stmt_return, crate::proofs::VariantPlans::stmt_print, crate::proofs::VariantPlans::stmt_task, crate::proofs::VariantPlans::stmt_await, crate::proofs::VariantPlans::stmt_call, crate::proofs::VariantPlans::stmt_block, crate::proofs::VariantPlans::count_var, crate::proofs::VariantPlans::count_let, crate::proofs::VariantPlans::count_inout, crate::proofs::VariantPlans::count_assign, crate::proofs::VariantPlans::count_if, crate::proofs::VariantPlans::count_while, crate::proofs::VariantPlans::count_return, crate::proofs::VariantPlans::count_print, crate::proofs::VariantPlans::count_task, crate::proofs::VariantPlans::count_await, crate::proofs::VariantPlans::count_call, crate::proofs::VariantPlans::count_block))]
-pub fn push_stmt<'t>(
+pub fn push_stmt<'s, 't>(
     alloc: Global,
-    scope: &Scope<'t>,
+    scope: &Scope<'s, 't>,
     plan: &mut Items<FlowOp>,
     next: &mut u32,
     stmt: &Stmt,
@@ -190,9 +190,9 @@ pub fn push_stmt<'t>(
 }
 
 #[cycle(stmts)]
-pub fn push_stmts<'t>(
+pub fn push_stmts<'s, 't>(
     alloc: Global,
-    scope: &Scope<'t>,
+    scope: &Scope<'s, 't>,
     plan: &mut Items<FlowOp>,
     next: &mut u32,
     stmts: &[Stmt],
@@ -209,9 +209,9 @@ pub fn push_stmts<'t>(
 
 #[cycle(stmts)]
 #[tactic(auto, using(crate::proofs::StmtLemmas::block_plan, crate::proofs::StmtLemmas::block_counted))]
-fn push_block<'t>(
+fn push_block<'s, 't>(
     alloc: Global,
-    scope: &Scope<'t>,
+    scope: &Scope<'s, 't>,
     plan: &mut Items<FlowOp>,
     next: &mut u32,
     block: &Block,
@@ -227,9 +227,9 @@ fn push_block<'t>(
 
 // The tests with their blocks, each before what comes where the test fails.
 #[cycle(stmts)]
-fn push_branches<'t>(
+fn push_branches<'s, 't>(
     alloc: Global,
-    scope: &Scope<'t>,
+    scope: &Scope<'s, 't>,
     plan: &mut Items<FlowOp>,
     next: &mut u32,
     branches: &[Branch],
@@ -244,9 +244,9 @@ fn push_branches<'t>(
 }
 
 #[cycle(stmts)]
-fn push_branch<'t>(
+fn push_branch<'s, 't>(
     alloc: Global,
-    scope: &Scope<'t>,
+    scope: &Scope<'s, 't>,
     plan: &mut Items<FlowOp>,
     next: &mut u32,
     branch: &Branch,
@@ -261,9 +261,9 @@ fn push_branch<'t>(
 }
 
 #[cycle(stmts)]
-fn push_else<'t>(
+fn push_else<'s, 't>(
     alloc: Global,
-    scope: &Scope<'t>,
+    scope: &Scope<'s, 't>,
     plan: &mut Items<FlowOp>,
     next: &mut u32,
     otherwise: &Option<Block>,

@@ -15,7 +15,7 @@ mod types;
 mod visible;
 
 pub use bodies::{Body, bodies_of};
-pub use bound::{captures_of, push_bound, visible_first};
+pub use bound::{captures_of, entry_of, push_bound, visible_first};
 pub use decls::Declared;
 pub use known::{Kind, Known, value_type};
 pub use listed::body_locals;

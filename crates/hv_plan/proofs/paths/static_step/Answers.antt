@@ -14,11 +14,11 @@ numbered n = static.Field n ∷ []
 
 pub returns-in-Ok : goal.returns-in-Ok
 returns-in-Ok c =
-    let found = step_field (core_tree c.args.tree.now) (typed (option_copied c.args.ty)) c.args.step.now c.in-Field.name c.in-Field.is
+    let found = step_field (core_tree c.args.declared.now) (typed (option_copied c.args.ty)) c.args.step.now c.in-Field.name c.in-Field.is
     ∙ ap (λ f. numbered (events.number_at f)) (sym c.field_at.ensures ∙ ap field_found c.in-Some.is) in
     grind (arith, common_steps)
 
 pub returns-in-None : goal.returns-in-None
 returns-in-None c =
-    step_field (core_tree c.args.tree.now) (typed (option_copied c.args.ty)) c.args.step.now c.in-Field.name c.in-Field.is
+    step_field (core_tree c.args.declared.now) (typed (option_copied c.args.ty)) c.args.step.now c.in-Field.name c.in-Field.is
     ∙ ap (λ f. numbered (events.number_at f)) (sym c.field_at.ensures ∙ ap field_found c.in-None.is)

@@ -8,5 +8,5 @@ use Rattle.hv_plan.proofs.paths.static_steps.Goals as goal
 
 pub loop-step-preserved : goal.loop-step-preserved
 loop-step-preserved c =
-    let next = steps_next (core_tree c.args.tree.now) (typed (option_copied c.loop-step.known)) c.args.steps.now c.loop-step.step-index c.step-item.result c.loop-step-test.true c.step-item.is in
+    let next = steps_next (core_tree c.args.declared.now) (typed (option_copied c.loop-step.known)) c.args.steps.now c.loop-step.step-index c.step-item.result c.loop-step-test.true c.step-item.is in
     grind (arith, common_steps)
