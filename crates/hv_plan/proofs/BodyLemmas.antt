@@ -1,5 +1,5 @@
 -- The plan of a body is the flow of its events.
-use Rattle.std.proofs.Common.{◌≡◌, List, [], ◌∷◌, ◌++◌, length, refl, sym, ap, ◌∙◌}
+use Rattle.std.proofs.Common.{◌≡◌, List, [], ◌∷◌, ◌++◌, length, refl, sym, ap, ◌∙◌, Result, Ok, Err, IfOk}
 use Rattle.hv_tree.specs.declared.ast.Block.{Block}
 use Rattle.hv_tree.specs.Core.{Core, CoreBlock, core_block}
 use Rattle.hv_tree.proofs.CoreLemmas as lemmas
@@ -27,3 +27,8 @@ body_same tree entry locals b body e f h =
     ∙ sym (ap (framed (entry_locals body) body.block) (same_stmts tree (locals_of body) (events.body_around body) (around (length (entry_locals body))) refl (events.stmts_in body.block))
     ∙ ap (by_core tree (entry_locals body) (locals_of body)) h
     ∙ ap (by_core tree (entry_locals body) (locals_of body)) (lemmas.opened_block b))
+
+-- an answer is the same by another name
+pub ok_same : {T E : Type 0} (r : Result T E) (a b : T) → a ≡ b → IfOk r (λ p. p ≡ a) → IfOk r (λ p. p ≡ b)
+ok_same (Ok p) a b e h = h ∙ e
+ok_same (Err x) a b e h = h
