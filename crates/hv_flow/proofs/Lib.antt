@@ -5,3 +5,6 @@ pub mod Walks
 pub mod Edges
 pub mod Shown
 pub mod Ends
+pub mod Entries
+pub mod Quiet
+pub mod Whole

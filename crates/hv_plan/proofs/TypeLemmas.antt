@@ -1,12 +1,11 @@
 -- Indices, steps and callees by their variant, as code meets them.
-use Rattle.std.proofs.Common.{◌≡◌, ℕ, ℤ, List, [], ◌∷◌, ◌++◌, ◌+◌, ◌<◌, length, drop, get_or, sym, Option, Some, None, map, refl, ap, ◌∙◌}
+use Rattle.std.proofs.Common.{◌≡◌, ℕ, ℤ, List, [], ◌∷◌, ◌++◌, ◌+◌, ◌<◌, length, drop, get_or, sym, Option, Some, None, refl, ap, ◌∙◌}
 use Rattle.hv_tree.specs.declared.place.Place.{Place}
 use Rattle.hv_tree.specs.declared.types.Name.{Name}
 use Rattle.hv_tree.specs.declared.types.Conv.{Conv}
 use Rattle.hv_tree.specs.declared.types.Ty.{Ty, out-Ty}
 use Rattle.hv_tree.specs.declared.types.Ty.TheVariants as ty
 use Rattle.hv_tree.specs.declared.types.Ty.TheOpen.{Ty-F}
-use Rattle.hv_tree.specs.declared.ast.Tree.{Tree}
 use Rattle.hv_tree.specs.declared.ast.Arg.{Arg}
 use Rattle.hv_tree.specs.declared.ast.Block.{Block}
 use Rattle.hv_tree.specs.declared.ast.Branch.{Branch}
@@ -20,11 +19,11 @@ use Rattle.hv_tree.specs.declared.ast.Step.TheVariants as step
 use Rattle.hv_tree.specs.declared.ast.Stmt.{Stmt}
 use Rattle.hv_tree.specs.declared.ast.StmtKind.{StmtKind}
 use Rattle.hv_tree.specs.declared.ast.Arg.TheOpen.{ExprKind-F, Step-F}
-use Rattle.hv_tree.specs.Core.{Core, core_decl, core_ty, core_tys_of, core_tree, core_of, core_kind, CoreSteps, NoSteps, core_step, core_steps}
+use Rattle.hv_tree.specs.Core.{Core, core_ty, core_tys_of, core_of, core_kind, CoreSteps, NoSteps, core_step, core_steps}
 use Rattle.hv_tree.proofs.CoreLemmas as lemmas
 use Rattle.hv_rules.specs.declared.path.StaticStep.{StaticStep}
 use Rattle.hv_rules.specs.declared.path.StaticStep.TheVariants as static
-use Rattle.hv_rules.specs.Types.{ValueType, meant, params_meant, convs_of, FieldAt, struct_in, fields_or_none, field_from, field_of, element_of}
+use Rattle.hv_rules.specs.Types.{ValueType, meant, params_meant, convs_of}
 use Rattle.hv_rules.specs.Events as events
 use Rattle.hv_scope.proofs.Firsts.{first_left}
 use Rattle.hv_plan.specs.Scopes.{param_types}

@@ -1,4 +1,4 @@
-use Rattle.std.proofs.Common.{◌≡◌, ◌++◌, map, refl, sym, ap, ◌∙◌}
+use Rattle.std.proofs.Common.{◌≡◌, ◌++◌, map, refl, ap, ◌∙◌}
 use Rattle.hv_tree.specs.Core.{core_param, core_tree}
 use Rattle.hv_rules.specs.Locals.{entry_locals, param_local}
 use Rattle.hv_scope.specs.Bodies.{body_by}
