@@ -1,19 +1,18 @@
 -- The entry of a body stands at its first node and nowhere else.
-use Rattle.std.proofs.Common.{◌≡◌, ◌⊎◌, inl, inr, ℕ, ◌+◌, List, [], refl, sym, ◌∙◌, ap, subst, arith}
+use Rattle.std.proofs.Common.{◌≡◌, inl, inr, ℕ, ◌+◌, List, [], refl, sym, ◌∙◌, ap, subst, arith}
 use Rattle.hv_tree.specs.declared.place.Place.{Place}
 use Rattle.hv_rules.specs.declared.event.FlowEvent.TheVariants as event
-use Rattle.hv_rules.specs.Flow.{Flow, Skip, Do, Stop, Then, Either, Loop}
+use Rattle.hv_rules.specs.Flow.{Skip, Do, Stop, Then, Either, Loop}
 use Rattle.hv_rules.specs.Events.{Events}
 use Rattle.hv_plan.specs.declared.plan.FlowOp.{FlowOp}
 use Rattle.hv_plan.specs.Spelling.{entered, plan_of}
 use Rattle.hv_flow.specs.declared.nodes.Node.{Node}
 use Rattle.hv_flow.specs.Acts.{Act, acts_of}
-use Rattle.hv_flow.specs.Graphs.{built, ActAt}
+use Rattle.hv_flow.specs.Graphs.{built}
 use Rattle.hv_flow.specs.Positions.{places, At}
 use Rattle.hv_flow.specs.Reading.{read_all}
-use Rattle.hv_flow.specs.Walks.{EntersNowhere, EntersOnce, entry}
+use Rattle.hv_flow.specs.Walks.{EntersNowhere, EntersOnce}
 use Rattle.hv_flow.proofs.Ranges.{at_in}
-use Rattle.hv_flow.proofs.Edges.{either_of}
 use Rattle.hv_flow.proofs.Ends.{act_from, none_old}
 use Rattle.hv_flow.proofs.ReadingLemmas.{read_plan}
 

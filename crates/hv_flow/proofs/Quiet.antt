@@ -8,7 +8,7 @@ use Rattle.hv_tree.specs.Core.{Core, CoreExpr, Number, Truth, Path, Calls, Await
 use Rattle.hv_rules.specs.declared.path.StaticPath.{StaticPath}
 use Rattle.hv_rules.specs.declared.event.FlowEvent.{FlowEvent}
 use Rattle.hv_rules.specs.declared.event.FlowEvent.TheVariants as event
-use Rattle.hv_rules.specs.Flow.{Flow, Skip, Do, Stop, Then, Either, Loop}
+use Rattle.hv_rules.specs.Flow.{Skip, Then, Either}
 use Rattle.hv_rules.specs.Locals.{LocalKind, Captured, Passed, VarBound, LetBound, InoutBound, Handle, Local, CoreBody, entry_locals, locals_of, number_in, value_of}
 use Rattle.hv_rules.specs.Events as events
 use Rattle.hv_flow.specs.Walks.{EntersNowhere}
@@ -130,12 +130,14 @@ module _ (tree : Core) (locals : List Local) where
 
     args : (w : events.Way) (at : Place) (callee : events.Callee) (xs : CoreArgs) → EntersNowhere (events.arg_events tree locals w at callee xs)
     args w at callee NoArgs = tt
-    args w at callee (ValueArg x rest) =
-        (expr (events.given w (events.next_conv callee)) x (given w (events.next_conv callee)),
-        closed w (events.opens_place tree locals w (events.next_conv callee) x) at (events.arg_events tree locals w at (events.other_convs callee) rest) (args w at (events.other_convs callee) rest))
-    args w at callee (RefArg mark root steps rest) =
-        ((indices steps, rooted (events.lent (events.next_conv callee)) (number_in locals root.text) root steps (lent (events.next_conv callee))),
-        closed w (events.is_local tree locals (number_in locals root.text)) at (events.arg_events tree locals w at (events.other_convs callee) rest) (args w at (events.other_convs callee) rest))
+    args w at callee (ValueArg x rest) = (
+      expr (events.given w (events.next_conv callee)) x (given w (events.next_conv callee)),
+      closed w (events.opens_place tree locals w (events.next_conv callee) x) at (events.arg_events tree locals w at (events.other_convs callee) rest) (args w at (events.other_convs callee) rest),
+    )
+    args w at callee (RefArg mark root steps rest) = (
+      (indices steps, rooted (events.lent (events.next_conv callee)) (number_in locals root.text) root steps (lent (events.next_conv callee))),
+      closed w (events.is_local tree locals (number_in locals root.text)) at (events.arg_events tree locals w at (events.other_convs callee) rest) (args w at (events.other_convs callee) rest),
+    )
 
   place : (does : events.Doing) (root : Name) (steps : CoreSteps) → Does does → EntersNowhere (events.place_events tree locals does root steps)
   place does root steps d = (indices steps, rooted does (number_in locals root.text) root steps d)

@@ -1,8 +1,6 @@
-use Rattle.std.proofs.Common.{◌≡◌, refl, sym, ◌∙◌}
+use Rattle.std.proofs.Common.{◌∙◌}
 use Rattle.hv_tree.specs.Core.{core_tree}
-use Rattle.hv_rules.specs.Events as events
 use Rattle.hv_scope.specs.Bodies.{body_by}
-use Rattle.hv_flow.proofs.Quiet.{body_enters_nowhere}
 use Rattle.hv_flow.proofs.Whole.{both}
 use Rattle.hv_flow.proofs.body.graph_of_body.Goals as goal
 
