@@ -13,7 +13,7 @@ ghost use Rattle.hv_plan.specs.Planned.{all_planned, planned, planned_by};
 
 use crate::plan::FlowOp;
 use crate::scope::Scope;
-use crate::stmts::{after, push_declared, push_stmts};
+use crate::stmts::{after, push_declared, push_end, push_stmts};
 use hv_items::Items;
 use hv_rules::FlowEvent;
 use hv_scope::{Body, Declared, Kind, Known, bodies_of, body_locals, entry_of};
@@ -75,7 +75,7 @@ fn push_rest<'s, 't>(
     let mut next = first;
     plan.push(FlowOp::Then)?;
     push_stmts(alloc, scope, plan, &mut next, block.stmts.as_slice())?;
-    plan.push(FlowOp::Do(FlowEvent::ScopeEnd(first), block.end))
+    push_end(plan, first, block.end)
 }
 
 // The plan of a body, with its entry, which stands at the `}`.

@@ -1,6 +1,8 @@
 // The plans of statements. `next` is how many locals of the body are declared before.
 ghost use Rattle.std.specs.Prelude.{◌≡◌, ◌++◌, ◌∷◌, [], ◌+◌, IfOk, OnOk};
 ghost use Rattle.hv_plan.specs.Scopes.{tree_in, locals_in};
+ghost use Rattle.hv_rules.specs.declared.event.FlowEvent.TheVariants as event;
+ghost use Rattle.hv_plan.specs.declared.plan.FlowOp.TheVariants as op;
 ghost use Rattle.hv_plan.specs.StmtPlans as plans;
 
 use crate::doing::{Doing, Way};
@@ -38,6 +40,13 @@ pub fn push_declared(
     plan.push(FlowOp::Do(FlowEvent::Init(whole), name.place))?;
     *next = after(number)?;
     Ok(())
+}
+
+// The end of the block whose first local has this number.
+pub fn push_end(plan: &mut Items<FlowOp>, first: u32, end: Place) -> Result<(), NoMemory>
+    ensures { OnOk result (plan.new ≡ plan.old ++ op.Do (event.ScopeEnd first) end ∷ []) }
+{
+    plan.push(FlowOp::Do(FlowEvent::ScopeEnd(first), end))
 }
 
 fn push_var<'s, 't>(
@@ -222,7 +231,7 @@ fn push_block<'s, 't>(
     let first = *next;
     plan.push(FlowOp::Then)?;
     push_stmts(alloc, scope, plan, next, block.stmts.as_slice())?;
-    plan.push(FlowOp::Do(FlowEvent::ScopeEnd(first), block.end))
+    push_end(plan, first, block.end)
 }
 
 // The tests with their blocks, each before what comes where the test fails.
