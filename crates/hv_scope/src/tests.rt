@@ -1,7 +1,5 @@
 use crate::{Declared, Kind, Known, Visible, bodies_of, body_locals};
-use hv_tree::{
-    Block, Conv, Decl, Expr, Name, Param, Place, StructDecl, Tree, builders as build,
-};
+use hv_tree::{Block, Conv, Decl, Expr, Name, Param, Place, StructDecl, Tree, builders as build};
 use std::alloc::{AllocError as NoMemory, Global};
 use std::test::Fail;
 
@@ -21,12 +19,18 @@ fn of_kind<'t>(name: &'t Name, kind: Kind) -> Known<'t> {
 
 fn shown<'t>(found: Option<Known<'t>>) -> &'static str {
     match found {
-        Some(Known {
-            kind: Kind::Let, ..
-        }) => "let",
-        Some(Known {
-            kind: Kind::Var, ..
-        }) => "var",
+        Some(
+            Known {
+                kind: Kind::Let,
+                ..
+            },
+        ) => "let",
+        Some(
+            Known {
+                kind: Kind::Var,
+                ..
+            },
+        ) => "var",
         Some(_) => "other",
         None => "none",
     }
@@ -65,12 +69,7 @@ fn params(alloc: Global, names: &[&str]) -> Result<Vec<Param>, NoMemory> {
     Ok(params)
 }
 
-fn function(
-    alloc: Global,
-    text: &str,
-    params: Vec<Param>,
-    body: Block,
-) -> Result<Decl, NoMemory> {
+fn function(alloc: Global, text: &str, params: Vec<Param>, body: Block) -> Result<Decl, NoMemory> {
     let function = build::fun_decl(alloc, name(alloc, text)?, params, None, body)?;
     build::decl_fun(alloc, function)
 }
@@ -106,7 +105,11 @@ fn the_first_declaration_with_a_name_counts(rt: HostRuntime) -> Result<(), Fail>
     assert_eq!(rt; declared.structs().len(), 3);
     for (text, want) in [("S", Some(0)), ("T", Some(2)), ("f", None)] {
         assert_eq!(rt; declared.struct_number(text), want, "{text}");
-        assert_eq!(rt; declared.find_struct(text).is_some(), want.is_some(), "{text}");
+        assert_eq!(rt;
+            declared.find_struct(text).is_some(),
+            want.is_some(),
+            "{text}"
+        );
     }
     for (of, text, want) in [("S", "y", Some(1)), ("S", "z", None), ("T", "x", None)] {
         let number = declared.find_field(of, text).map(|found| found.0);
