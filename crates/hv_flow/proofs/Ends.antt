@@ -8,10 +8,11 @@ use Rattle.hv_flow.specs.Graphs.{node_of, extend_at, linked, built, next_of, Amo
 use Rattle.hv_tree.specs.declared.place.Place.{Place}
 use Rattle.hv_rules.specs.Events.{Mark, Events}
 use Rattle.hv_rules.specs.Flow.{IsTrace}
-use Rattle.hv_flow.specs.declared.plan.FlowOp.{FlowOp}
-use Rattle.hv_flow.specs.Acts.{act_of, acts_of, plan_of}
+use Rattle.hv_plan.specs.declared.plan.FlowOp.{FlowOp}
+use Rattle.hv_flow.specs.Acts.{act_of, acts_of}
+use Rattle.hv_plan.specs.Spelling.{entered, plan_of}
 use Rattle.hv_flow.specs.Reading.{read_all}
-use Rattle.hv_flow.specs.Walks.{Walk, IsFullWalk, EndsAlone, entry, entered, Traces, IsGraph}
+use Rattle.hv_flow.specs.Walks.{Walk, IsFullWalk, EndsAlone, entry, Traces, IsGraph}
 use Rattle.hv_flow.specs.Walks as walks
 use Rattle.hv_flow.proofs.Shown.{Marked, map_two, whole_shown, whole_marked, alone_shown}
 use Rattle.hv_flow.proofs.ReadingLemmas.{read_plan}
@@ -79,7 +80,7 @@ act_there (Then a b) ns k i e g h =
 act_there (Either a b) ns k i e g h = either_of (λ p. acts_kept b (built a ns).nodes i e (act_there a ns k i e g p)) (act_there b (built a ns).nodes (k + places a) i e (base a ns k g)) h
 act_there (Loop a) ns k i e g h = linked_acts (built a ns).part.last (built a ns).part.first (built a ns).nodes i e (act_there a ns k i e g h)
 
-act_from : (f : Flow Act) (ns : List Node) (k i : ℕ) (e : Act) → length ns ≡ k → ActAt (built f ns).nodes i e → ActAt ns i e ⊎ At k f i e
+pub act_from : (f : Flow Act) (ns : List Node) (k i : ℕ) (e : Act) → length ns ≡ k → ActAt (built f ns).nodes i e → ActAt ns i e ⊎ At k f i e
 act_from Skip ns k i e g h = inl h
 act_from (Do x) ns k i e g h = acts_pushed ns x k i e g h
 act_from (Stop x) ns k i e g h = acts_pushed ns x k i e g h
@@ -220,7 +221,7 @@ path_head : {E : Type 0} (k : ℕ) (f : Flow E) (i : ℕ) (e : E) (es : List E) 
 path_head k f i e es j (here h) = h
 path_head k f i e es j (step h n p) = h
 
-none_old : {P : Type 0} → ⊥ ⊎ P → P
+pub none_old : {P : Type 0} → ⊥ ⊎ P → P
 none_old (inl h) = absurd h
 none_old (inr p) = p
 

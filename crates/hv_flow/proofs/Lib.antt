@@ -1,4 +1,3 @@
-pub mod Stacks
 pub mod GraphLemmas
 pub mod ReadingLemmas
 pub mod Ranges
@@ -6,17 +5,6 @@ pub mod Walks
 pub mod Edges
 pub mod Shown
 pub mod Ends
-pub mod Firsts
-pub mod Added
-pub mod TypeLemmas
-pub mod ExprPlans
-pub mod Around
-pub mod VariantPlans
-pub mod StmtLemmas
-pub mod LocalLemmas
-pub mod BodyLemmas
-pub mod SeenLemmas
-pub mod BindLemmas
-pub mod BodyVariants
-pub mod SiteBodies
-pub mod DeclBodies
+pub mod Entries
+pub mod Quiet
+pub mod Whole

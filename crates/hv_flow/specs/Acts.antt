@@ -1,11 +1,8 @@
--- What a graph and a plan show of a body's events: each event and its place.
-use Rattle.std.specs.Prelude.{List, [], ◌∷◌, ◌++◌}
+-- What a graph shows of a body's events: each event and its place.
 use Rattle.hv_tree.specs.declared.place.Place.{Place}
 use Rattle.hv_rules.specs.declared.event.FlowEvent.{FlowEvent}
 use Rattle.hv_rules.specs.Flow.{Flow, Skip, Do, Stop, Then, Either, Loop}
 use Rattle.hv_rules.specs.Events.{Mark, Events}
-use Rattle.hv_flow.specs.declared.plan.FlowOp.{FlowOp}
-use Rattle.hv_flow.specs.declared.plan.FlowOp.TheVariants as op
 
 -- an event at its place
 pub record Act : Type 0 where
@@ -24,12 +21,3 @@ acts_of (Stop m) = Stop (act_of m)
 acts_of (Then a b) = Then (acts_of a) (acts_of b)
 acts_of (Either a b) = Either (acts_of a) (acts_of b)
 acts_of (Loop a) = Loop (acts_of a)
-
--- a flow written down, each operator before its parts
-abbrev pub plan_of : Events → List FlowOp
-plan_of Skip = op.Skip ∷ []
-plan_of (Do m) = op.Do m.event m.place ∷ []
-plan_of (Stop m) = op.Stop m.event m.place ∷ []
-plan_of (Then a b) = op.Then ∷ (plan_of a ++ plan_of b)
-plan_of (Either a b) = op.Either ∷ (plan_of a ++ plan_of b)
-plan_of (Loop a) = op.Loop ∷ plan_of a

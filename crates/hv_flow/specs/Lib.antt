@@ -1,10 +1,7 @@
+-- what the contracts rest on
 pub mod Acts
-pub mod Positions
 pub mod Graphs
-pub mod Reading
 pub mod Walks
-pub mod Scopes
-pub mod Plans
-pub mod StmtPlans
-pub mod BodyPlans
-pub mod Bodies
+-- what the functions inside promise each other
+pub mod Reading
+pub mod Positions

@@ -1,11 +1,11 @@
 -- Walks through a graph, and the graph of a body.
-use Rattle.std.specs.Prelude.{◌≡◌, ◌↔◌, ℕ, List, [], ◌∷◌, ◌++◌, map, Option, Some, None}
+use Rattle.std.specs.Prelude.{◌≡◌, ◌≢◌, ◌↔◌, ℕ, List, [], ◌∷◌, ◌++◌, map, Option, Some, None}
 use Rattle.hv_tree.specs.declared.place.Place.{Place}
 use Rattle.hv_rules.specs.declared.event.FlowEvent.TheVariants as event
 use Rattle.hv_rules.specs.Flow.{Flow, Skip, Do, Stop, Then, Either, Loop, IsWhole, IsTrace}
 use Rattle.hv_tree.specs.Core.{Core}
 use Rattle.hv_rules.specs.Locals.{CoreBody}
-use Rattle.hv_rules.specs.Events.{Mark, mark, Events, end_of, body_events}
+use Rattle.hv_rules.specs.Events.{Mark, Events, end_of, body_events}
 use Rattle.hv_flow.specs.declared.nodes.Node.{Node}
 use Rattle.hv_flow.specs.Acts.{Act, act_of}
 use Rattle.hv_flow.specs.Graphs.{next_of, Edge, ActAt}
@@ -24,10 +24,6 @@ pub record IsFullWalk (ns : List Node) (es : List Act) : Type 0 where
 -- the entry of a body, at this place
 abbrev pub entry : Place → Act
 entry at = record { event = event.Entry; place = at }
-
--- what a body does, after its entry
-abbrev pub entered : Place → Events → Events
-entered at f = Then (Do (mark event.Entry at)) f
 
 -- what is walked after the entry is a whole trace
 pub record Traces (at : Place) (f : Events) (es : List Act) : Type 0 where
@@ -54,7 +50,20 @@ EndsAlone (Then a b) = EndsAlone b
 EndsAlone (Either a b) = ⊥
 EndsAlone (Loop a) = ⊥
 
+-- no event of the flow is an entry
+abbrev pub EntersNowhere : Events → Type 0
+EntersNowhere Skip = Unit {0}
+EntersNowhere (Do m) = m.event ≢ event.Entry
+EntersNowhere (Stop m) = m.event ≢ event.Entry
+EntersNowhere (Then a b) = EntersNowhere a × EntersNowhere b
+EntersNowhere (Either a b) = EntersNowhere a × EntersNowhere b
+EntersNowhere (Loop a) = EntersNowhere a
+
+-- an entry stands at the first node and nowhere else
+abbrev pub EntersOnce : List Node → Type 0
+EntersOnce ns = (i : ℕ) (e : Act) → ActAt ns i e → (e.event ≡ event.Entry) ↔ (i ≡ 0)
+
 -- The graph of a body, where there is one: its entry stands at the `}`. Of no body it has no nodes.
 abbrev pub IsGraphOf : Core → Option CoreBody → List Node → Type 0
 IsGraphOf tree None ns = ns ≡ []
-IsGraphOf tree (Some body) ns = IsGraph (end_of body.block) (body_events tree body) ns
+IsGraphOf tree (Some body) ns = IsGraph (end_of body.block) (body_events tree body) ns × EntersOnce ns

@@ -2,15 +2,15 @@
 ghost use Rattle.std.specs.Prelude.{◌≡◌, ◌++◌, ◌∷◌, [], if◌then◌else◌, IfOk, OnOk, length};
 ghost use Rattle.hv_tree.specs.declared.place.Place.{Place};
 ghost use Rattle.hv_rules.specs.Events.{Events};
-ghost use Rattle.hv_flow.specs.Acts.{plan_of};
-ghost use Rattle.hv_flow.specs.Walks.{EndsAlone, IsGraph, entered};
+ghost use Rattle.hv_plan.specs.Spelling.{entered, plan_of};
+ghost use Rattle.hv_flow.specs.Walks.{EndsAlone, EntersNowhere, EntersOnce, IsGraph};
 ghost use Rattle.hv_flow.specs.Graphs.{extend_at, linked, new_node, nothing, then_part, either_part, loop_part};
 ghost use Rattle.hv_flow.specs.Reading.{given, read, read_all};
 
 use crate::nodes::{FlowGraph, Node};
-use crate::plan::FlowOp;
 use crate::waiting::{Frame, Part, Waiting};
 use hv_items::Items;
+use hv_plan::FlowOp;
 use hv_rules::FlowEvent;
 use hv_tree::Place;
 use std::alloc::{AllocError as NoMemory, Global};
@@ -228,9 +228,10 @@ fn read_all(alloc: Global, plan: Vec<FlowOp>) -> Result<Vec<Node>, NoMemory>
 }
 
 /// The graph of a plan. Its edges may be quadratically many: a row of pieces that may be empty has one from each piece to each later one.
-#[tactic(auto, using(crate::proofs::Ends::plan_is_graph))]
+#[tactic(auto, using(crate::proofs::Ends::plan_is_graph, crate::proofs::Entries::plan_enters))]
 pub fn graph_of(alloc: Global, plan: Vec<FlowOp>) -> Result<FlowGraph, NoMemory>
-    ensures { IfOk result (λ g. (at : Place) (f : Events) → plan.items ≡ plan_of (entered at f) → EndsAlone f → IsGraph at f g.nodes) }
+    ensures graph { IfOk result (λ g. (at : Place) (f : Events) → plan.items ≡ plan_of (entered at f) → EndsAlone f → IsGraph at f g.nodes) }
+    ensures enters { IfOk result (λ g. (at : Place) (f : Events) → plan.items ≡ plan_of (entered at f) → EntersNowhere f → EntersOnce g.nodes) }
 {
     let nodes = read_all(alloc, plan)?;
     Ok(FlowGraph {

@@ -1,8 +1,0 @@
-use Rattle.std.proofs.Common.{◌≡◌, ◌++◌, map, drop}
-use Rattle.hv_rules.specs.Sites.{capture_local}
-use Rattle.hv_flow.specs.Scopes.{local_by}
-use Rattle.hv_flow.specs.Bodies.{seen}
-use Rattle.hv_flow.proofs.bodies.captures_of.Given as goal
-
-abbrev pub invariant-loop-name : goal.invariant-loop-name
-invariant-loop-name l = map local_by l.known.items ++ map (capture_local (seen l.visible)) (drop l.name-index l.captures) ≡ map (capture_local (seen l.visible)) l.captures

@@ -1,0 +1,6 @@
+pub mod TypeLemmas
+pub mod ExprPlans
+pub mod Around
+pub mod VariantPlans
+pub mod StmtLemmas
+pub mod BodyLemmas

@@ -1,0 +1,12 @@
+pub mod Firsts
+pub mod Added
+pub mod Stacks
+pub mod OldestLemmas
+pub mod Places
+pub mod EntryLemmas
+pub mod TypeLemmas
+pub mod LocalLemmas
+pub mod BindLemmas
+pub mod BodyVariants
+pub mod SiteBodies
+pub mod DeclBodies
