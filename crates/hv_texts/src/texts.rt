@@ -64,7 +64,7 @@ impl<'a> Texts<'a> {
         self.find(text).is_some()
     }
 
-    /// Adds a text at the end. Without memory for it the list stays.
+    /// Adds a text at the end.
     pub fn push(&mut self, text: &'a str) -> Result<(), NoMemory>
         ensures { OnOk result (self.new ≡ self.old ++ text.now ∷ []) }
     {
