@@ -236,7 +236,8 @@ fn program(alloc: Global, form: Form, count: u32) -> Result<Tree, AllocError> {
 }
 
 fn measure(rt: &(impl Print + Clock), alloc: Global, form: Form, size: u32) -> io::Result<()> {
-    let tree = program(alloc, form, size / bytes(form))?;
+    let count = size.checked_div(bytes(form)).unwrap_or(0);
+    let tree = program(alloc, form, count)?;
     let kind = word(form);
     for _ in 0..7u8 {
         let start = Instant::now(rt)?;
