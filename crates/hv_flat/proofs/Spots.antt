@@ -24,21 +24,19 @@ seen w q = q >>= (λ p. there p >>= (λ t. pure (written_spot w p, t)))
 -- ---- what is found is there
 
 pub looked : (x : Target) → copying.copying.look x ≡ seen x.written (look x.root x.links)
-unfolding ◌>>=◌ pure there look
+unfolding ◌>>=◌ pure there look trap stuck
 looked x = runs (λ n c s. go n c s (walk x.links (tree_at s.own x.root)) refl)
   where
-    go : (n : ℕ) (c : Unit {0}) (s : Now Locals) (r : Reached Place) → walk x.links (tree_at s.own x.root) ≡ r → copying.arrived x r n c s ≡ after (arrived x.root r n c s) (λ z. after (if_there (stands_at z.0.own z.1) (λ t. Is (z.0, t))) (λ y. Is (y.0, (written_spot x.written z.1, y.1))))
-    unfolding ◌>>=◌ pure there look trap stuck
+    go : (n : ℕ) (c : Unit {0}) (s : Now Locals) (r : Reached Place) → walk x.links (tree_at s.own x.root) ≡ r → copying.arrived x r n c s ≡ after {A = Now Locals × Spot} (arrived x.root r n c s) (λ z. after {A = Now Locals × ValueTree} (if_there (stands_at z.0.own z.1) (λ t. Is (z.0, t))) (λ y. Is (y.0, (written_spot x.written z.1, y.1))))
     go n c s (Reaches p u) e = rw (get_walk x.links (tree_at s.own x.root) p u e) refl
     go n c s (Outside at) e = refl
     go n c s Lost e = refl
 
 pub look_sure : (x : ℕ) (links : List (Link Place)) → look x links >>= (λ p. there p >>= (λ t. pure p)) ≡ look x links
-unfolding ◌>>=◌ pure there look
+unfolding ◌>>=◌ pure there look trap stuck
 look_sure x links = runs (λ n c s. go n c s (walk links (tree_at s.own x)) refl)
   where
-    go : (n : ℕ) (c : Unit {0}) (s : Now Locals) (r : Reached Place) → walk links (tree_at s.own x) ≡ r → after (arrived x r n c s) (λ z. after (if_there (stands_at z.0.own z.1) (λ t. Is (z.0, t))) (λ y. Is (y.0, z.1))) ≡ arrived x r n c s
-    unfolding ◌>>=◌ pure there look trap stuck
+    go : (n : ℕ) (c : Unit {0}) (s : Now Locals) (r : Reached Place) → walk links (tree_at s.own x) ≡ r → after {A = Now Locals × Spot} (arrived x r n c s) (λ z. after {A = Now Locals × ValueTree} (if_there (stands_at z.0.own z.1) (λ t. Is (z.0, t))) (λ y. Is (y.0, z.1))) ≡ arrived x r n c s
     go n c s (Reaches p u) e = rw (get_walk links (tree_at s.own x) p u e) refl
     go n c s (Outside at) e = refl
     go n c s Lost e = refl
@@ -88,25 +86,25 @@ pub under_is : (mode : Mode) (r : ℕ) (w : List StaticStep) (p : Spot) (go : Pl
 unfolding ◌>>=◌ pure opened
 under_is mode r w p go = runs (λ n c s. at n c s (stands_at s.own p))
   where
-    at : (n : ℕ) (c : Unit {0}) (s : Now Locals) (o : Option ValueTree) → if_there o (λ t. after (go n c (copying.with_own s (copying.with_tree s.own r t))) (λ e. after (copying.closed mode r (written_spot w p) e.0) (λ u. Is (u, e.1)))) ≡ after (if_there o (λ t. Is (copying.with_own s (copying.with_tree s.own r t), tt))) (λ z. after (go n c z.0) (λ e. (closed_by mode r p >>= (λ done. pure e.1)) n c e.0))
+    at : (n : ℕ) (c : Unit {0}) (s : Now Locals) (o : Option ValueTree) → if_there o (λ t. after (go n c (copying.with_own s (copying.with_tree s.own r t))) (λ e. after (copying.closed mode r (written_spot w p) e.0) (λ u. Is (u, e.1)))) ≡ after {A = Now Locals × Unit {0}} (if_there o (λ t. Is (copying.with_own s (copying.with_tree s.own r t), tt))) (λ z. after (go n c z.0) (λ e. (closed_by mode r p >>= (λ done. pure e.1)) n c e.0))
     at n c s None = refl
     at n c s (Some t) = after_same (go n c (copying.with_own s (copying.with_tree s.own r t))) (λ e. closing mode r w p n c e.0 e.1)
 
 -- the flow, behind the closing of these
 abbrev pub behind : List Access → Flow → Plain Flow
-behind open v = all_closed open >>= (λ done. pure v)
+behind opens v = all_closed opens >>= (λ done. pure v)
 
 pub behind_nothing : (q : Plain Flow) → q >>= behind [] ≡ q
 behind_nothing q = later q (λ v. pure_first tt (λ done. pure v)) ∙ pure_last q
 
 -- one more access that is open
-pub under_behind : (mode : Mode) (r : ℕ) (w : List StaticStep) (p : Spot) (go : Plain Flow) (open : List Access) → copying.copying.under mode r (written_spot w p) go >>= behind open ≡ opened (access mode r p) >>= (λ done. go >>= behind (access mode r p ∷ open))
-under_behind mode r w p go open =
+pub under_behind : (mode : Mode) (r : ℕ) (w : List StaticStep) (p : Spot) (go : Plain Flow) (opens : List Access) → copying.copying.under mode r (written_spot w p) go >>= behind opens ≡ opened (access mode r p) >>= (λ done. go >>= behind (access mode r p ∷ opens))
+under_behind mode r w p go opens =
     both (under_is mode r w p go) (λ v. refl)
-    ∙ split (opened (access mode r p)) (λ done. go >>= (λ v. closed (access mode r p) >>= (λ done. pure v))) (behind open)
-      (λ done. split go (λ v. closed (access mode r p) >>= (λ done. pure v)) (behind open)
-        (λ v. split (closed (access mode r p)) (λ done. pure v) (behind open) (λ done. pure_first v (behind open))
-          ∙ sym (assoc (closed (access mode r p)) (λ done. all_closed open) (λ done. pure v))))
+    ∙ split (opened (access mode r p)) (λ done. go >>= (λ v. closed (access mode r p) >>= (λ done. pure v))) (behind opens)
+      (λ done. split go (λ v. closed (access mode r p) >>= (λ done. pure v)) (behind opens)
+        (λ v. split (closed (access mode r p)) (λ done. pure v) (behind opens) (λ done. pure_first v (behind opens))
+          ∙ sym (assoc (closed (access mode r p)) (λ done. all_closed opens) (λ done. pure v))))
 
 -- ---- none of it goes by the number of references in use
 

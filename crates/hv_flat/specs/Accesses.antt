@@ -73,4 +73,4 @@ closed a = closed_by a.mode a.reference a.place
 -- the last opened is the first of the list
 abbrev pub all_closed : List Access → Plain (Unit {0})
 all_closed [] = pure tt
-all_closed (a ∷ open) = closed a >>= (λ done. all_closed open)
+all_closed (a ∷ opens) = closed a >>= (λ done. all_closed opens)

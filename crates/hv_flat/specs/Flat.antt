@@ -21,7 +21,7 @@ use Rattle.hv_copying.specs.Calls.{Callee, Constructs, Enters, result_of, ended,
 use Rattle.hv_copying.specs.Blocks.{first_token, chosen, repeated}
 use Rattle.hv_copying.specs.Evaluate.{if_local}
 use Rattle.hv_flat.specs.Accesses.{Plain, Spot, there, put_at, look, Access, all_closed}
-use Rattle.hv_flat.specs.Parts.{copied, counted, value_gift, place_gift, Given, taken, counting, Went, Leaves, Goes, flowed, went, opening, local, named, callee, captured_from, declared, bound, own_gift}
+use Rattle.hv_flat.specs.Parts.{copied, counted, value_gift, place_gift, Given, taken, counting, Went, Leaves, Goes, flowed, went, opening, local, found, named, callee, called, captured_from, declared, bound, own_gift}
 use Rattle.hv_copying.specs.Ops.{Writes}
 
 module _ (tree : Core) (locals : List Local) (deeper : Option (ℕ → Plain Flow)) where
@@ -29,12 +29,12 @@ module _ (tree : Core) (locals : List Local) (deeper : Option (ℕ → Plain Flo
     pub value : CoreExpr → Plain ValueTree
     value (Number at z) = pure (v.Number z)
     value (Truth at b) = pure (v.Truth b)
-    value (Path at root steps) = named tree locals (number_in locals root.text) root steps (place root steps)
+    value (Path at root steps) = named tree locals (number_in locals root.text) root steps (found tree locals root (links_from [] (type_of copying tree locals root) steps))
     value (Calls at c) = call c
     value (Awaits at name) = local tree locals name >>= copying.await
     value (Array at xs) = values_from [] xs >>= (λ vs. pure (Elements (row vs)))
     value (Filled at len x) = value len >>= (λ n. value x >>= (λ w. number n >>= filled_with at w))
-    value (Count at root steps) = counted (place root steps)
+    value (Count at root steps) = counted (found tree locals root (links_from [] (type_of copying tree locals root) steps))
     value (Lambda at captures params result body) =
         captured_from tree locals [] captures >>= (λ vs. known Kinds (body_number (bodies_of tree) body) >>= (λ f. pure (Closure f (row vs))))
     value (Prefix at op x) = value x >>= (λ w. applied at (unary op w))
@@ -56,22 +56,17 @@ module _ (tree : Core) (locals : List Local) (deeper : Option (ℕ → Plain Flo
     links_from ls t (FieldStep name rest) = known Kinds (field_at tree t name) >>= (λ f. links_from (ls ++ ToField f.number ∷ []) (Some f.ty) rest)
     links_from ls t (IndexStep at x rest) = value x >>= (λ w. number w >>= (λ z. links_from (ls ++ ToIndex z at ∷ []) (element_at t) rest))
 
-    pub place : Name → CoreSteps → Plain Spot
-    place root steps = local tree locals root >>= (λ x. links_from [] (type_of copying tree locals root) steps >>= look x)
-
     pub place_in : CoreExpr → Option (Plain Spot)
-    place_in (Path at root steps) = if_local (number_in locals root.text) (place root steps)
+    place_in (Path at root steps) = if_local (number_in locals root.text) (found tree locals root (links_from [] (type_of copying tree locals root) steps))
     place_in _ = None
 
+    -- a construction, or a body, behind which the accesses of its arguments close
     pub call : CoreCall → Plain ValueTree
-    call (CallOf root steps at given) = callee tree locals (number_in locals root.text) root steps (place root steps) >>= (λ who. called at given who)
-
-    -- a construction of its parts, or a body, behind which the accesses of its arguments close
-    pub called : Place → CoreArgs → Callee → Plain ValueTree
-    called at given Constructs = parts_from [] given >>= (λ vs. pure (Fields (row vs)))
-    called at given (Enters f captures) =
-        body_of tree f >>= (λ body. counting (λ m. args_from given body.params m (passed_captures captures) []) >>= (λ r.
-        entered copying tree locals deeper at f body r.0 >>= (λ flow. all_closed r.1 >>= (λ done. pure (result_of flow)))))
+    call (CallOf root steps at given) =
+        callee tree locals (number_in locals root.text) root steps (found tree locals root (links_from [] (type_of copying tree locals root) steps)) >>= (λ who.
+        called tree locals who (parts_from [] given) (λ f captures body.
+        counting (λ m. args_from given body.params m (passed_captures captures) []) >>= (λ r.
+        entered copying tree locals deeper at f body r.0 >>= (λ flow. all_closed r.1 >>= (λ done. pure (result_of flow))))))
 
     pub parts_from : List ValueTree → CoreArgs → Plain (List ValueTree)
     parts_from vs NoArgs = pure vs
@@ -80,17 +75,17 @@ module _ (tree : Core) (locals : List Local) (deeper : Option (ℕ → Plain Flo
 
     -- the arguments so far, and then these in order, where m references are in use
     pub args_from : CoreArgs → List CoreParam → ℕ → List Passed → List Access → Plain Given
-    args_from NoArgs [] m ps open = pure (ps, open)
-    args_from NoArgs (p ∷ params) m ps open = stuck Kinds
-    args_from (ValueArg x rest) [] m ps open = stuck Kinds
-    args_from (ValueArg x rest) (p ∷ params) m ps open = counted_from m (value_gift p.conv (place_in x) (value x)) >>= (λ g. taken g m ps open (args_from rest params))
-    args_from (RefArg at root steps rest) [] m ps open = stuck Kinds
-    args_from (RefArg at root steps rest) (p ∷ params) m ps open = counted_from m (place_gift p.conv (place root steps)) >>= (λ g. taken g m ps open (args_from rest params))
+    args_from NoArgs [] m ps opens = pure (ps, opens)
+    args_from NoArgs (p ∷ params) m ps opens = stuck Kinds
+    args_from (ValueArg x rest) [] m ps opens = stuck Kinds
+    args_from (ValueArg x rest) (p ∷ params) m ps opens = counted_from m (value_gift p.conv (place_in x) (value x)) >>= (λ g. taken g m ps opens (args_from rest params))
+    args_from (RefArg at root steps rest) [] m ps opens = stuck Kinds
+    args_from (RefArg at root steps rest) (p ∷ params) m ps opens = counted_from m (place_gift p.conv (found tree locals root (links_from [] (type_of copying tree locals root) steps))) >>= (λ g. taken g m ps opens (args_from rest params))
 
     -- the callee and the arguments of a spawn
     pub child : CoreCall → Plain Child
     child (CallOf root steps at given) =
-        callee tree locals (number_in locals root.text) root steps (place root steps) >>= (λ who.
+        callee tree locals (number_in locals root.text) root steps (found tree locals root (links_from [] (type_of copying tree locals root) steps)) >>= (λ who.
         child_by copying tree locals deeper who (λ f captures body. own_gifts given body.params (passed_captures captures)))
 
     pub own_gifts : CoreArgs → List CoreParam → List Passed → Plain (List Passed)
@@ -105,15 +100,15 @@ module _ (tree : Core) (locals : List Local) (deeper : Option (ℕ → Plain Flo
     block (BlockOf stmts end) = statements stmts [] >>= (λ r. all_closed r.1 >>= (λ done. pure r.0))
 
     pub statements : CoreStmts → List Access → Plain (Flow × List Access)
-    statements NoStmts open = pure (None, open)
-    statements (StmtOf x rest) open = pay 1 (first_token x) >>= (λ paid. statement x >>= (λ w. went w open (statements rest)))
+    statements NoStmts opens = pure (None, opens)
+    statements (StmtOf x rest) opens = pay 1 (first_token x) >>= (λ paid. statement x >>= (λ w. went w opens (statements rest)))
 
     pub statement : CoreStmt → Plain Went
     statement (Var at name t) = declared tree locals name (holes tree t)
     statement (VarWith at name t x) = value x >>= (λ w. declared tree locals name w)
     statement (Let at name t x) = bound tree locals name (place_in x) (value x)
-    statement (Inout at name t root steps) = place root steps >>= (λ p. local tree locals name >>= (λ r. opening Writes r p))
-    statement (Assign at root steps x) = value x >>= (λ w. place root steps >>= (λ p. put_at p w >>= (λ done. pure Goes)))
+    statement (Inout at name t root steps) = found tree locals root (links_from [] (type_of copying tree locals root) steps) >>= (λ p. local tree locals name >>= (λ r. opening Writes r p))
+    statement (Assign at root steps x) = value x >>= (λ w. found tree locals root (links_from [] (type_of copying tree locals root) steps) >>= (λ p. put_at p w >>= (λ done. pure Goes)))
     statement (If at branches) = choices branches >>= flowed
     statement (While at test body) = repeated at (value test) (block body) >>= flowed
     statement (Return at) = pure (Leaves (Fields Nil))

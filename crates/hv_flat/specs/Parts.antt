@@ -5,8 +5,9 @@ use Rattle.hv_tree.specs.declared.types.Name.{Name}
 use Rattle.hv_tree.specs.declared.types.Conv.{Conv}
 use Rattle.hv_tree.specs.declared.types.Conv.TheVariants as conv
 use Rattle.hv_tree.specs.Core.{Core, CoreSteps}
-use Rattle.hv_rules.specs.Locals.{Local, number_in}
-use Rattle.hv_value.specs.ValueTree.{ValueTree, Number, Parts, Nil, Cons}
+use Rattle.hv_rules.specs.Locals.{Local, CoreBody, number_in}
+use Rattle.hv_value.specs.ValueTree.{ValueTree, Number, Fields, Parts, row}
+use Rattle.hv_value.specs.Walk.{Link}
 use Rattle.hv_value.specs.Holes.{emptied}
 use Rattle.hv_value.specs.Operators.{length_of}
 use Rattle.hv_value.specs.Sizes.{copy_cost}
@@ -14,7 +15,7 @@ use Rattle.hv_copying.specs.Run.{Run, Flow, Kinds, Holes, ◌>>=◌, pure, stuck
 use Rattle.hv_copying.specs.Ops.{Mode, Reads, Writes, Sets, Passed, Value, Lent}
 use Rattle.hv_copying.specs.Copying.{Locals, copying}
 use Rattle.hv_copying.specs.Places.{whole}
-use Rattle.hv_copying.specs.Calls.{Callee, Constructs, Enters, top_callee, value_callee}
+use Rattle.hv_copying.specs.Calls.{Callee, Constructs, Enters, top_callee, value_callee, body_of}
 use Rattle.hv_copying.specs.Evaluate.{top_value}
 use Rattle.hv_flat.specs.Accesses.{Plain, Spot, there, put_at, look, Access, access, opened}
 
@@ -62,8 +63,8 @@ Given = List Passed × List Access
 
 -- an argument more, where m references are in use
 abbrev pub taken : Gift → ℕ → List Passed → List Access → (ℕ → List Passed → List Access → Plain Given) → Plain Given
-taken (Owns mode t) m ps open go = go m (ps ++ Value mode t ∷ []) open
-taken (Lends mode p) m ps open go = opened (access mode m p) >>= (λ done. go (suc m) (ps ++ Lent m ∷ []) (access mode m p ∷ open))
+taken (Owns mode t) m ps opens go = go m (ps ++ Value mode t ∷ []) opens
+taken (Lends mode p) m ps opens go = opened (access mode m p) >>= (λ done. go (suc m) (ps ++ Lent m ∷ []) (access mode m p ∷ opens))
 
 -- goes on with the number of references in use
 unfoldable pub counting : {A : Type 0} → (ℕ → Plain A) → Plain A
@@ -82,9 +83,9 @@ flowed None = pure Goes
 flowed (Some v) = pure (Leaves v)
 
 abbrev pub went : Went → List Access → (List Access → Plain (Flow × List Access)) → Plain (Flow × List Access)
-went (Leaves v) open go = pure (Some v, open)
-went Goes open go = go open
-went (Opens a) open go = go (a ∷ open)
+went (Leaves v) opens go = pure (Some v, opens)
+went Goes opens go = go opens
+went (Opens a) opens go = go (a ∷ opens)
 
 abbrev pub opening : Mode → ℕ → Spot → Plain Went
 opening mode r p = opened (access mode r p) >>= (λ done. pure (Opens (access mode r p)))
@@ -93,6 +94,10 @@ opening mode r p = opened (access mode r p) >>= (λ done. pure (Opens (access mo
 module _ (tree : Core) (locals : List Local) where
   abbrev pub local : Name → Plain ℕ
   local name = known Kinds (number_in locals name.text)
+
+  -- the place that a root and steps name, over the run of the indices
+  abbrev pub found : Name → Plain (List (Link Place)) → Plain Spot
+  found root indices = local root >>= (λ x. indices >>= look x)
 
   -- a local's place is copied, else the name is a function's
   abbrev pub named : Option ℕ → Name → CoreSteps → Plain Spot → Plain ValueTree
@@ -103,6 +108,11 @@ module _ (tree : Core) (locals : List Local) where
   abbrev pub callee : Option ℕ → Name → CoreSteps → Plain Spot → Plain Callee
   callee None root steps place = top_callee tree root steps
   callee (Some x) root steps place = copied root.place place >>= value_callee
+
+  -- by the callee: a construction of its parts, or a call of a body
+  abbrev pub called : Callee → Plain (List ValueTree) → (ℕ → Parts → CoreBody → Plain ValueTree) → Plain ValueTree
+  called Constructs parts go = parts >>= (λ vs. pure (Fields (row vs)))
+  called (Enters f captures) parts go = body_of tree f >>= go f captures
 
   -- the captures in order, each paid at the captured name
   abbrev pub captured_from : List ValueTree → List Name → Plain (List ValueTree)
