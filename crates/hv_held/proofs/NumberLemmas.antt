@@ -62,4 +62,5 @@ pub some_pair : (f : ℤ → ℤ → Given) (t u : ValueTree) (x y : ℤ) → bo
 some_pair f t u x y h = numbers-pair f t u ∙ ap (by_pair f) h
 
 pub ruleset by_kind = (numbers-pair, no_pair, some_pair)
+
 pub ruleset by_fit = (if_fits-number)

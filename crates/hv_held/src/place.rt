@@ -65,11 +65,7 @@ pub fn put(held: &mut Held, path: &[PathStep], new: Held)
 }
 
 /// Takes what stands at a path, and leaves a hole for each of its leaves there.
-pub fn take_out(
-    alloc: Global,
-    held: &mut Held,
-    path: &[PathStep],
-) -> Result<Option<Held>, NoMemory>
+pub fn take_out(alloc: Global, held: &mut Held, path: &[PathStep]) -> Result<Option<Held>, NoMemory>
     ensures value { IfOk result (λ taken. option_map held_tree taken ≡ spec.get (held_tree held.old) path.now) }
     ensures left { OnOk result (held_tree held.new ≡ clear (held_tree held.old) path.now) }
     ensures same { OnErr result (held.new ≡ held.old) }

@@ -1,0 +1,12 @@
+//! A task under way, and each step on its steps, its output and its locals.
+#![tactic(auto)]
+
+mod local;
+mod paid;
+mod spot;
+mod task;
+
+pub use local::{drop_local, set_local};
+pub use paid::{pay, pay_size, say};
+pub use spot::{Spot, copy_there, look, put_there, take_there};
+pub use task::{Cause, Halt, Task};
