@@ -28,6 +28,10 @@ from p n t = p n tt (now_of t)
 abbrev pub nothing : {A : Type 0} → A → Unit {0}
 nothing a = tt
 
+-- an answer that is seen as it is
+abbrev pub itself : {A : Type 0} → A → A
+itself a = a
+
 -- want of memory stands for nothing
 abbrev pub halted : {A : Type 0} → Halt → Task → Res A
 halted halt.NoMemory t = Stuck run.Tasks

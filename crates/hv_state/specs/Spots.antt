@@ -1,7 +1,8 @@
 -- Places in locals.
-use Rattle.std.specs.Prelude.{◌≡◌, ◌⊎◌, Option, Some, None}
+use Rattle.std.specs.Prelude.{◌≡◌, ◌⊎◌, Bool, false, Option, Some, None}
 use Rattle.hv_tree.specs.declared.place.Place.{Place}
 use Rattle.hv_value.specs.ValueTree.{ValueTree, Hole}
+use Rattle.hv_value.specs.Holes.{is_whole}
 use Rattle.hv_value.specs.Sizes.{copy_cost}
 use Rattle.hv_copying.specs.Run.{◌>>=◌, pure, pay}
 use Rattle.hv_copying.specs.Places.{whole}
@@ -16,6 +17,11 @@ spot_of s = record { root = s.root; path = s.path }
 abbrev pub Found : Option ValueTree → Option ValueTree → Type 0
 Found o None = (o ≡ None) ⊎ (o ≡ Some Hole)
 Found o (Some t) = o ≡ Some t
+
+-- a tree without holes stands there
+abbrev pub whole_there : Option ValueTree → Bool
+whole_there None = false
+whole_there (Some t) = is_whole t
 
 -- what stands there is copied, which is paid at this place
 unfoldable pub copied_there : Place → flat.Spot → Plain ValueTree

@@ -1,9 +1,9 @@
 // Locals by their numbers.
 
-ghost use Rattle.std.specs.Prelude.{◌≡◌, OnOk, map, slice_set, get_or};
+ghost use Rattle.std.specs.Prelude.{◌≡◌, ◌<◌, OnOk, map, length, slice_set, get_or};
 ghost use Rattle.hv_copying.specs.Copying.{change_at};
 ghost use Rattle.hv_held.specs.HeldTree.{held_tree};
-ghost use Rattle.hv_value.specs.ValueTree.{Hole};
+ghost use Rattle.hv_value.specs.ValueTree.{ValueTree, Hole};
 
 use hv_held::Held;
 use hv_items::Items;
@@ -14,15 +14,21 @@ use std::alloc::AllocError as NoMemory;
 pub fn set_local(locals: &mut Items<Held>, x: usize, held: Held) -> Result<(), NoMemory>
     ensures { OnOk result (map held_tree locals.new ≡ change_at (map held_tree locals.old) x (held_tree held)) }
 {
-    for _ in locals.len()..x {
+    pad(locals, x)?;
+    locals.set(x, held);
+    Ok(())
+}
+
+// Holes stand under each number up to this one that has nothing yet.
+#[tactic(auto, using(crate::proofs::LocalLemmas::push_hole))]
+fn pad(locals: &mut Items<Held>, x: usize) -> Result<(), NoMemory>
+    ensures within { OnOk result (x < length locals.new) }
+    ensures same { OnOk result ((t : ValueTree) → change_at (map held_tree locals.new) x t ≡ change_at (map held_tree locals.old) x t) }
+{
+    while locals.len() <= x {
         locals.push(Held::Hole)?;
     }
-    if x < locals.len() {
-        locals.set(x, held);
-        Ok(())
-    } else {
-        locals.push(held)
-    }
+    Ok(())
 }
 
 /// Takes what is under a number, and leaves a hole there.
