@@ -60,7 +60,7 @@ returned_is r p n t new h e = go (standing t p) refl h
 pub returned_own : (p : Spot) (n : ℕ) (t : Task) (new : List Held) → is_some (standing t p) ≡ true → map held_tree new ≡ change_at (map held_tree t.locals) p.root (held_tree held.Hole) → from (returned p.root p) n t ≡ Is (now_of (record t { locals = new }), tt)
 returned_own p n t new h e =
     returned_is p.root p n t new h
-      (e ∙ ap (change_at (map held_tree t.locals) p.root) tree-hole ∙ sym (change-twice (map held_tree t.locals) p.root (put (get_or (map held_tree t.locals) p.root Hole) p.path (get_or (map held_tree t.locals) p.root Hole)) Hole))
+    (e ∙ ap (change_at (map held_tree t.locals) p.root) tree-hole ∙ sym (change-twice (map held_tree t.locals) p.root (put (get_or (map held_tree t.locals) p.root Hole) p.path (get_or (map held_tree t.locals) p.root Hole)) Hole))
 
 pub ruleset by_forget_own = (returned_nowhere, returned_own)
 
@@ -74,9 +74,9 @@ returned_apart r p n t u ts us new d f e h k l =
     let other : get_or ts p.root Hole ≡ get_or (map held_tree t.locals) p.root Hole = ap (λ x. get_or x p.root Hole) e ∙ get_or-other (map held_tree t.locals) r p.root Hole (λ k. d (sym k)) in
     let put_same : put (get_or ts p.root Hole) p.path u ≡ put (get_or (map held_tree t.locals) p.root Hole) p.path (get_or (map held_tree t.locals) r Hole) = ap (λ x. put x p.path u) other ∙ ap (put (get_or (map held_tree t.locals) p.root Hole) p.path) f in
     returned_is r p n t new (sym (h ∙ ap (λ x. is_some (get x p.path)) other))
-      (l ∙ ap (change_at us r) tree-hole
-      ∙ ap (λ x. change_at x r Hole) (k ∙ ap (change_at ts p.root) put_same ∙ ap (λ x. change_at x p.root (put (get_or (map held_tree t.locals) p.root Hole) p.path (get_or (map held_tree t.locals) r Hole))) e)
-      ∙ change-over (map held_tree t.locals) r p.root Hole (put (get_or (map held_tree t.locals) p.root Hole) p.path (get_or (map held_tree t.locals) r Hole)) Hole (λ k. d (sym k)))
+    (l ∙ ap (change_at us r) tree-hole
+    ∙ ap (λ x. change_at x r Hole) (k ∙ ap (change_at ts p.root) put_same ∙ ap (λ x. change_at x p.root (put (get_or (map held_tree t.locals) p.root Hole) p.path (get_or (map held_tree t.locals) r Hole))) e)
+    ∙ change-over (map held_tree t.locals) r p.root Hole (put (get_or (map held_tree t.locals) p.root Hole) p.path (get_or (map held_tree t.locals) r Hole)) Hole (λ k. d (sym k)))
 
 pub ruleset by_return = (returned_apart_nowhere, returned_apart)
 

@@ -75,7 +75,7 @@ moved_whole p n t u v new e w h k =
     let whole : is_whole v ≡ true = ap whole_there (sym h) ∙ w in
     let left : clear u p.path ≡ put u p.path (emptied v) = ap (λ o. put_if_there u p.path (option_map emptied o)) h in
     let trees : map held_tree new ≡ change_at (map held_tree t.locals) p.root (put (get_or (map held_tree t.locals) p.root Hole) p.path (emptied v)) =
-      k ∙ change_dropped (map held_tree t.locals) p.root Hole (clear u p.path) ∙ ap (change_at (map held_tree t.locals) p.root) (left ∙ ap (λ x. put x p.path (emptied v)) e) in
+    k ∙ change_dropped (map held_tree t.locals) p.root Hole (clear u p.path) ∙ ap (change_at (map held_tree t.locals) p.root) (left ∙ ap (λ x. put x p.path (emptied v)) e) in
     rw stands (rw whole (rw stands (rw trees refl)))
 
 pub ruleset by_move = (moved_nowhere, moved_whole)

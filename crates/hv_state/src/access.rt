@@ -128,7 +128,9 @@ pub fn close_all(task: &mut Task, accesses: Vec<Access>) -> Result<(), Halt>
 {
     let mut accesses = accesses;
     while let Some(access) = accesses.pop() {
-        close(task, &access)?;
+        if let Err(halt) = close(task, &access) {
+            return Err(halt);
+        }
     }
     Ok(())
 }

@@ -61,13 +61,7 @@ fn given(task: &Task, at: Place, computed: Option<Computed>) -> Result<Held, Hal
 }
 
 /// What an operator gives, or its trap.
-pub fn binary(
-    task: &Task,
-    operator: Operator,
-    at: Place,
-    a: &Held,
-    b: &Held,
-) -> Result<Held, Halt>
+pub fn binary(task: &Task, operator: Operator, at: Place, a: &Held, b: &Held) -> Result<Held, Halt>
     ensures { (n : ℕ) → Gives held_tree (from (operations.applied at (operations.binary operator (held_tree a.now) (held_tree b.now))) n task.now) result task.now }
 {
     given(task, at, hv_held::binary(operator, a, b))

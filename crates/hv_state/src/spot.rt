@@ -31,12 +31,7 @@ pub struct Spot {
 }
 
 #[tactic(auto, using(crate::proofs::LocalLemmas::by_look, crate::proofs::LocalLemmas::by_hole))]
-fn walk_local(
-    alloc: Global,
-    locals: &[Held],
-    root: usize,
-    links: &[Link],
-) -> Result<Way, NoMemory>
+fn walk_local(alloc: Global, locals: &[Held], root: usize, links: &[Link]) -> Result<Way, NoMemory>
     ensures { IfOk result (λ way. way ≡ way_of (walks.walk (links_of links.now) (get_or (map held_tree locals.now) root Hole))) }
 {
     match at(locals, root) {
