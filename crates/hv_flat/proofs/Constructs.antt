@@ -49,8 +49,8 @@ found_sees tree locals root steps indices links e =
     record {
       steps = w;
       same =
-        later (flat.local tree locals root) (λ x. both e (λ ls. looked (def.target copying tree locals x root steps ls)))
-        ∙ sym (split (flat.local tree locals root) (λ x. links >>= look x) S (λ x. split links (look x) S (λ ls. refl)));
+          later (flat.local tree locals root) (λ x. both e (λ ls. looked (def.target copying tree locals x root steps ls)))
+          ∙ sym (split (flat.local tree locals root) (λ x. links >>= look x) S (λ x. split links (look x) S (λ ls. refl)));
       sure = split (flat.local tree locals root) (λ x. links >>= look x) T (λ x. split links (look x) T (λ ls. look_sure x ls));
     }
 
@@ -61,7 +61,7 @@ pub moved_then : {A : Type 0} (tree : Core) (locals : List Local) (P : Plain (op
 moved_then tree locals P Q h K =
     seen_then P Q h (λ f. def.moved copying tree locals f >>= K)
     ∙ later Q (λ p. sym (split (there p) (λ t. whole t >>= (λ v. put_at p (emptied v) >>= (λ done. pure v))) K
-        (λ t. both (sym (later (whole t) (λ v. both (wrote h.steps p (emptied v)) (λ done. refl)))) (λ v. refl))))
+    (λ t. both (sym (later (whole t) (λ v. both (wrote h.steps p (emptied v)) (λ done. refl)))) (λ v. refl))))
 
 pub counted_same : (tree : Core) (locals : List Local) (P : Plain (ops.Spot × ValueTree)) (Q : Plain Spot) → Sees P Q → {A : Type 0} (K : ℕ → Plain A) → P >>= (λ f. def.counted copying tree locals f >>= K) ≡ Q >>= (λ p. there p >>= (λ t. def.counted copying tree locals (written_spot [] p, t) >>= K))
 counted_same tree locals P Q h K = seen_then P Q h (λ f. def.counted copying tree locals f >>= K)
@@ -101,8 +101,8 @@ capture_sees tree locals name =
     record {
       steps = [];
       same =
-        later (flat.local tree locals name) (λ x. looked (record { root = x; written = []; links = [] }))
-        ∙ sym (split (flat.local tree locals name) (λ x. look x []) S (λ x. refl));
+          later (flat.local tree locals name) (λ x. looked (record { root = x; written = []; links = [] }))
+          ∙ sym (split (flat.local tree locals name) (λ x. look x []) S (λ x. refl));
       sure = split (flat.local tree locals name) (λ x. look x []) T (λ x. look_sure x []);
     }
 
@@ -112,9 +112,9 @@ captured_same tree locals vs (name ∷ names) K =
     let P = def.local copying tree locals name >>= (λ x. copying.look (record { root = x; written = []; links = [] })) in
     let Q = flat.local tree locals name >>= (λ x. look x []) in
     split (def.copied copying tree locals name.place P) (λ v. def.captured copying tree locals names >>= (λ ps. pure (Cons v ps))) (λ ps. K (onto_row vs ps))
-      (λ v. split (def.captured copying tree locals names) (λ ps. pure (Cons v ps)) (λ ps. K (onto_row vs ps))
-          (λ ps. pure_first (Cons v ps) (λ ps. K (onto_row vs ps)) ∙ ap K (sym (onto-one vs v ps)))
-        ∙ captured_same tree locals (vs ++ v ∷ []) names K)
+    (λ v. split (def.captured copying tree locals names) (λ ps. pure (Cons v ps)) (λ ps. K (onto_row vs ps))
+    (λ ps. pure_first (Cons v ps) (λ ps. K (onto_row vs ps)) ∙ ap K (sym (onto-one vs v ps)))
+    ∙ captured_same tree locals (vs ++ v ∷ []) names K)
     ∙ both (copied_same tree locals name.place P Q (capture_sees tree locals name)) (λ v. refl)
     ∙ sym (assoc (flat.copied name.place Q) (λ v. flat.captured_from tree locals (vs ++ v ∷ []) names) (λ ws. K (row ws)))
 
@@ -181,9 +181,9 @@ module _ (K : Passed → Plain Flow) (m : ℕ) (opens : List Access) where
         let L : Spot → Plain Flow = λ p. def_calls.lent copying tree locals deeper Sets (written_spot h.steps p) K in
         gift_first _ (seen_then P Q h (λ f. copying.write f.0 (emptied f.1) >>= (λ done. def_calls.lent copying tree locals deeper Sets f.0 K)))
         (gift_then Q (λ p. there p >>= (λ t. copying.write (written_spot h.steps p) (emptied t) >>= (λ done. L p))) (λ p. there p >>= (λ t. put_at p (emptied t) >>= (λ done. pure (Lends Sets p))))
-          (λ p. gift_then (there p) (λ t. copying.write (written_spot h.steps p) (emptied t) >>= (λ done. L p)) (λ t. put_at p (emptied t) >>= (λ done. pure (Lends Sets p)))
-            (λ t. gift_first _ (both (wrote h.steps p (emptied t)) (λ done. refl))
-              (gift_then (put_at p (emptied t)) (λ done. L p) (λ done. pure (Lends Sets p)) (λ done. lend Sets h.steps p)))))
+        (λ p. gift_then (there p) (λ t. copying.write (written_spot h.steps p) (emptied t) >>= (λ done. L p)) (λ t. put_at p (emptied t) >>= (λ done. pure (Lends Sets p)))
+        (λ t. gift_first _ (both (wrote h.steps p (emptied t)) (λ done. refl))
+        (gift_then (put_at p (emptied t)) (λ done. L p) (λ done. pure (Lends Sets p)) (λ done. lend Sets h.steps p)))))
     place_passes conv.Let P Q h = gift_stuck
     place_passes conv.Sink P Q h = gift_stuck
 

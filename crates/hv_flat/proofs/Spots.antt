@@ -52,14 +52,14 @@ pub seen_then : {A : Type 0} (P : Plain (ops.Spot × ValueTree)) (Q : Plain Spot
 seen_then P Q h K =
     both h.same (λ f. refl)
     ∙ split Q (λ p. there p >>= (λ t. pure (written_spot h.steps p, t))) K
-      (λ p. split (there p) (λ t. pure (written_spot h.steps p, t)) K (λ t. pure_first (written_spot h.steps p, t) K))
+    (λ p. split (there p) (λ t. pure (written_spot h.steps p, t)) K (λ t. pure_first (written_spot h.steps p, t) K))
 
 -- what is done with the place alone
 pub place_then : {A : Type 0} (P : Plain (ops.Spot × ValueTree)) (Q : Plain Spot) (h : Sees P Q) (K : ops.Spot → Plain A) → P >>= (λ f. K f.0) ≡ Q >>= (λ p. K (written_spot h.steps p))
 place_then P Q h K =
     seen_then P Q h (λ f. K f.0)
     ∙ sym (split Q (λ p. there p >>= (λ t. pure p)) (λ p. K (written_spot h.steps p))
-      (λ p. split (there p) (λ t. pure p) (λ p. K (written_spot h.steps p)) (λ t. pure_first p (λ p. K (written_spot h.steps p)))))
+    (λ p. split (there p) (λ t. pure p) (λ p. K (written_spot h.steps p)) (λ t. pure_first p (λ p. K (written_spot h.steps p)))))
     ∙ both h.sure (λ p. refl)
 
 -- ---- writing, opening and closing
@@ -102,9 +102,9 @@ pub under_behind : (mode : Mode) (r : ℕ) (w : List StaticStep) (p : Spot) (go 
 under_behind mode r w p go opens =
     both (under_is mode r w p go) (λ v. refl)
     ∙ split (opened (access mode r p)) (λ done. go >>= (λ v. closed (access mode r p) >>= (λ done. pure v))) (behind opens)
-      (λ done. split go (λ v. closed (access mode r p) >>= (λ done. pure v)) (behind opens)
-        (λ v. split (closed (access mode r p)) (λ done. pure v) (behind opens) (λ done. pure_first v (behind opens))
-          ∙ sym (assoc (closed (access mode r p)) (λ done. all_closed opens) (λ done. pure v))))
+    (λ done. split go (λ v. closed (access mode r p) >>= (λ done. pure v)) (behind opens)
+    (λ v. split (closed (access mode r p)) (λ done. pure v) (behind opens) (λ done. pure_first v (behind opens))
+    ∙ sym (assoc (closed (access mode r p)) (λ done. all_closed opens) (λ done. pure v))))
 
 -- ---- none of it goes by the number of references in use
 

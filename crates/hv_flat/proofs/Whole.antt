@@ -44,7 +44,7 @@ callee_same tree locals deeper (Some x) root steps P Q h = both (copied_same tre
 result_behind : (r : Given) (x : Plain Flow) → (x >>= behind r.1) >>= (λ flow. pure (result_of flow)) ≡ x >>= (λ flow. all_closed r.1 >>= (λ done. pure (result_of flow)))
 result_behind r x =
     split x (behind r.1) (λ flow. pure (result_of flow))
-      (λ flow. split (all_closed r.1) (λ done. pure flow) (λ flow. pure (result_of flow)) (λ done. pure_first flow (λ flow. pure (result_of flow))))
+    (λ flow. split (all_closed r.1) (λ done. pure flow) (λ flow. pure (result_of flow)) (λ done. pure_first flow (λ flow. pure (result_of flow))))
 
 -- a callee's body, behind its arguments
 entered_same : (X : Plain Flow) (Y : ℕ → Plain Given) (go : List Passed → Plain Flow) → ((m : ℕ) → counted_from m X >>= behind [] ≡ Y m >>= finish go) → X >>= (λ flow. pure (result_of flow)) ≡ counting Y >>= (λ r. go r.0 >>= (λ flow. all_closed r.1 >>= (λ done. pure (result_of flow))))
@@ -110,17 +110,17 @@ module _ (opens : List Access) (go : Plain Flow) where
   declares : (tree : Core) (locals : List Local) (name : Name) (w : ValueTree) → Does opens go (def_places.declared copying tree locals name w >>= (λ done. go)) (parts.declared tree locals name w)
   declares tree locals name w =
       does_first _ _ (parts.declared tree locals name w)
-        (split (parts.local tree locals name) (λ x. copying.write (def_places.all_of copying tree locals x) w) (λ done. go) (λ x. both (wrote [] (parts.all_of x) w) (λ done. refl)))
+      (split (parts.local tree locals name) (λ x. copying.write (def_places.all_of copying tree locals x) w) (λ done. go) (λ x. both (wrote [] (parts.all_of x) w) (λ done. refl)))
       (does_then (parts.local tree locals name) (parts.local tree locals name) (λ x. put_at (parts.all_of x) w >>= (λ done. go)) (λ x. put_at (parts.all_of x) w >>= (λ done. pure Goes)) refl
-        (λ x. does_then (put_at (parts.all_of x) w) (put_at (parts.all_of x) w) (λ done. go) (λ done. pure Goes) refl (λ done. goes_on)))
+      (λ x. does_then (put_at (parts.all_of x) w) (put_at (parts.all_of x) w) (λ done. go) (λ done. pure Goes) refl (λ done. goes_on)))
 
   binds_place : (tree : Core) (locals : List Local) (mode : Mode) (name : Name) (P : Plain (ops.Spot × ValueTree)) (Q : Plain Spot) → Sees P Q → Does opens go (P >>= (λ f. def_places.local copying tree locals name >>= (λ r. copying.under mode r f.0 go))) (Q >>= (λ p. parts.local tree locals name >>= (λ r. opening mode r p)))
   binds_place tree locals mode name P Q h =
       does_first _ _ (Q >>= (λ p. parts.local tree locals name >>= (λ r. opening mode r p)))
-        (place_then P Q h (λ p. def_places.local copying tree locals name >>= (λ r. copying.under mode r p go)))
+      (place_then P Q h (λ p. def_places.local copying tree locals name >>= (λ r. copying.under mode r p go)))
       (does_then Q Q (λ p. parts.local tree locals name >>= (λ r. copying.under mode r (written_spot h.steps p) go)) (λ p. parts.local tree locals name >>= (λ r. opening mode r p)) refl
-        (λ p. does_then (parts.local tree locals name) (parts.local tree locals name) (λ r. copying.under mode r (written_spot h.steps p) go) (λ r. opening mode r p) refl
-          (λ r. opens_one mode r h.steps p)))
+      (λ p. does_then (parts.local tree locals name) (parts.local tree locals name) (λ r. copying.under mode r (written_spot h.steps p) go) (λ r. opening mode r p) refl
+      (λ r. opens_one mode r h.steps p)))
 
   binds : (tree : Core) (locals : List Local) (name : Name) (P : Option (Plain (ops.Spot × ValueTree))) (Q : Option (Plain Spot)) (x y : Plain ValueTree) → Placed P Q → x ≡ y → Does opens go (bound copying tree locals name P x go) (parts.bound tree locals name Q y)
   binds tree locals name (Some P) (Some Q) x y h e = binds_place tree locals Reads name P Q h
@@ -131,9 +131,9 @@ module _ (opens : List Access) (go : Plain Flow) where
   assigns : (tree : Core) (locals : List Local) (P : Plain (ops.Spot × ValueTree)) (Q : Plain Spot) (w : ValueTree) → Sees P Q → Does opens go (P >>= (λ f. copying.write f.0 w >>= (λ done. go))) (Q >>= (λ p. put_at p w >>= (λ done. pure Goes)))
   assigns tree locals P Q w h =
       does_first _ _ (Q >>= (λ p. put_at p w >>= (λ done. pure Goes)))
-        (place_then P Q h (λ p. copying.write p w >>= (λ done. go)) ∙ later Q (λ p. both (wrote h.steps p w) (λ done. refl)))
+      (place_then P Q h (λ p. copying.write p w >>= (λ done. go)) ∙ later Q (λ p. both (wrote h.steps p w) (λ done. refl)))
       (does_then Q Q (λ p. put_at p w >>= (λ done. go)) (λ p. put_at p w >>= (λ done. pure Goes)) refl
-        (λ p. does_then (put_at p w) (put_at p w) (λ done. go) (λ done. pure Goes) refl (λ done. goes_on)))
+      (λ p. does_then (put_at p w) (put_at p w) (λ done. go) (λ done. pure Goes) refl (λ done. goes_on)))
 
 chosen_same : {x y : Plain ValueTree} {a b c d : Plain Flow} → x ≡ y → a ≡ b → c ≡ d → chosen x a c ≡ chosen y b d
 chosen_same e f g = λ i. chosen (e i) (f i) (g i)
@@ -171,8 +171,8 @@ module _ (tree : Core) (locals : List Local) (deeper : Option (ℕ → Plain Flo
     values_same ws NoExprs = none_more ws
     values_same ws (ExprOf x rest) =
         sym (split (def.value copying tree locals deeper x) (λ w. def.values copying tree locals deeper rest >>= (λ us. pure (w ∷ us))) (λ us. pure (ws ++ us))
-            (λ w. one_more ws w (flat.values_from tree locals deeper (ws ++ w ∷ []) rest) (def.values copying tree locals deeper rest) (values_same (ws ++ w ∷ []) rest))
-          ∙ both (value_same x) (λ w. refl))
+        (λ w. one_more ws w (flat.values_from tree locals deeper (ws ++ w ∷ []) rest) (def.values copying tree locals deeper rest) (values_same (ws ++ w ∷ []) rest))
+        ∙ both (value_same x) (λ w. refl))
 
     chained_same : (links : CoreLinks) (w : ValueTree) → def.chained copying tree locals deeper links w ≡ flat.chained tree locals deeper links w
     chained_same NoLinks w = refl
@@ -183,12 +183,12 @@ module _ (tree : Core) (locals : List Local) (deeper : Option (ℕ → Plain Flo
     links_same ls t NoSteps = none_more ls
     links_same ls t (FieldStep name rest) =
         sym (split (known Kinds (field_at tree t name)) (λ f. def.indices copying tree locals deeper (Some f.ty) rest >>= (λ us. pure (ToField f.number ∷ us))) (λ us. pure (ls ++ us))
-          (λ f. one_more ls (ToField f.number) (flat.links_from tree locals deeper (ls ++ ToField f.number ∷ []) (Some f.ty) rest) (def.indices copying tree locals deeper (Some f.ty) rest) (links_same (ls ++ ToField f.number ∷ []) (Some f.ty) rest)))
+        (λ f. one_more ls (ToField f.number) (flat.links_from tree locals deeper (ls ++ ToField f.number ∷ []) (Some f.ty) rest) (def.indices copying tree locals deeper (Some f.ty) rest) (links_same (ls ++ ToField f.number ∷ []) (Some f.ty) rest)))
     links_same ls t (IndexStep at x rest) =
         sym (split (def.value copying tree locals deeper x) (λ w. number w >>= (λ z. def.indices copying tree locals deeper (element_at t) rest >>= (λ us. pure (ToIndex z at ∷ us)))) (λ us. pure (ls ++ us))
-            (λ w. split (number w) (λ z. def.indices copying tree locals deeper (element_at t) rest >>= (λ us. pure (ToIndex z at ∷ us))) (λ us. pure (ls ++ us))
-              (λ z. one_more ls (ToIndex z at) (flat.links_from tree locals deeper (ls ++ ToIndex z at ∷ []) (element_at t) rest) (def.indices copying tree locals deeper (element_at t) rest) (links_same (ls ++ ToIndex z at ∷ []) (element_at t) rest)))
-          ∙ both (value_same x) (λ w. refl))
+        (λ w. split (number w) (λ z. def.indices copying tree locals deeper (element_at t) rest >>= (λ us. pure (ToIndex z at ∷ us))) (λ us. pure (ls ++ us))
+        (λ z. one_more ls (ToIndex z at) (flat.links_from tree locals deeper (ls ++ ToIndex z at ∷ []) (element_at t) rest) (def.indices copying tree locals deeper (element_at t) rest) (links_same (ls ++ ToIndex z at ∷ []) (element_at t) rest)))
+        ∙ both (value_same x) (λ w. refl))
 
     placed : (x : CoreExpr) → Placed (def.place_in copying tree locals deeper x) (flat.place_in tree locals deeper x)
     placed (Path at root steps) = placed_if (number_in locals root.text) _ _ (sees root steps (λ ls. links_same ls (type_of copying tree locals root) steps))
@@ -206,16 +206,16 @@ module _ (tree : Core) (locals : List Local) (deeper : Option (ℕ → Plain Flo
     call_same : (c : CoreCall) → def.call copying tree locals deeper c ≡ flat.call tree locals deeper c
     call_same (CallOf root steps at given) =
         both (callee_same tree locals deeper (number_in locals root.text) root steps _ _ (sees root steps (λ ls. links_same ls (type_of copying tree locals root) steps)))
-          (λ who. called_same tree locals deeper who _ _ _ _ (sym (parts_same [] given ∙ pure_last (def.parts copying tree locals deeper given)))
-            (λ f captures body. entered_same (def.args copying tree locals deeper given body.params (passed_captures captures) (entered copying tree locals deeper at f body)) (λ m. flat.args_from tree locals deeper given body.params m (passed_captures captures) []) (entered copying tree locals deeper at f body)
-              (λ m. args_same given body.params m (passed_captures captures) [] (entered copying tree locals deeper at f body) (steady at f body))))
+        (λ who. called_same tree locals deeper who _ _ _ _ (sym (parts_same [] given ∙ pure_last (def.parts copying tree locals deeper given)))
+        (λ f captures body. entered_same (def.args copying tree locals deeper given body.params (passed_captures captures) (entered copying tree locals deeper at f body)) (λ m. flat.args_from tree locals deeper given body.params m (passed_captures captures) []) (entered copying tree locals deeper at f body)
+        (λ m. args_same given body.params m (passed_captures captures) [] (entered copying tree locals deeper at f body) (steady at f body))))
 
     parts_same : (ws : List ValueTree) (xs : CoreArgs) → flat.parts_from tree locals deeper ws xs ≡ def.parts copying tree locals deeper xs >>= (λ us. pure (ws ++ us))
     parts_same ws NoArgs = none_more ws
     parts_same ws (ValueArg x rest) =
         sym (split (def.value copying tree locals deeper x) (λ w. def.parts copying tree locals deeper rest >>= (λ us. pure (w ∷ us))) (λ us. pure (ws ++ us))
-            (λ w. one_more ws w (flat.parts_from tree locals deeper (ws ++ w ∷ []) rest) (def.parts copying tree locals deeper rest) (parts_same (ws ++ w ∷ []) rest))
-          ∙ both (value_same x) (λ w. refl))
+        (λ w. one_more ws w (flat.parts_from tree locals deeper (ws ++ w ∷ []) rest) (def.parts copying tree locals deeper rest) (parts_same (ws ++ w ∷ []) rest))
+        ∙ both (value_same x) (λ w. refl))
     parts_same ws (RefArg at root steps rest) = sym (stuck_first Kinds (λ us. pure (ws ++ us)))
 
     args_same : (given : CoreArgs) (params : List CoreParam) (m : ℕ) (ps : List Passed) (opens : List Access) (go : List Passed → Plain Flow) → Steady go → counted_from m (def.args copying tree locals deeper given params ps go) >>= behind opens ≡ flat.args_from tree locals deeper given params m ps opens >>= finish go
@@ -224,18 +224,18 @@ module _ (tree : Core) (locals : List Local) (deeper : Option (ℕ → Plain Flo
     args_same (ValueArg x rest) [] m ps opens go h = no_args m opens go
     args_same (ValueArg x rest) (p ∷ params) m ps opens go h =
         args_step m ps opens go (λ a. def.args copying tree locals deeper rest params (ps ++ a ∷ []) go) (flat.args_from tree locals deeper rest params) _ _
-          (value_passes (λ a. def.args copying tree locals deeper rest params (ps ++ a ∷ []) go) m opens tree locals deeper p.conv (def.place_in copying tree locals deeper x) (flat.place_in tree locals deeper x) (def.value copying tree locals deeper x) (flat.value tree locals deeper x) (placed x) (value_same x))
-          (λ a n more. args_same rest params n (ps ++ a ∷ []) more go h)
+        (value_passes (λ a. def.args copying tree locals deeper rest params (ps ++ a ∷ []) go) m opens tree locals deeper p.conv (def.place_in copying tree locals deeper x) (flat.place_in tree locals deeper x) (def.value copying tree locals deeper x) (flat.value tree locals deeper x) (placed x) (value_same x))
+        (λ a n more. args_same rest params n (ps ++ a ∷ []) more go h)
     args_same (RefArg at root steps rest) [] m ps opens go h = no_args m opens go
     args_same (RefArg at root steps rest) (p ∷ params) m ps opens go h =
         args_step m ps opens go (λ a. def.args copying tree locals deeper rest params (ps ++ a ∷ []) go) (flat.args_from tree locals deeper rest params) _ _
-          (place_passes (λ a. def.args copying tree locals deeper rest params (ps ++ a ∷ []) go) m opens tree locals deeper p.conv _ _ (sees root steps (λ ls. links_same ls (type_of copying tree locals root) steps)))
-          (λ a n more. args_same rest params n (ps ++ a ∷ []) more go h)
+        (place_passes (λ a. def.args copying tree locals deeper rest params (ps ++ a ∷ []) go) m opens tree locals deeper p.conv _ _ (sees root steps (λ ls. links_same ls (type_of copying tree locals root) steps)))
+        (λ a n more. args_same rest params n (ps ++ a ∷ []) more go h)
 
     child_is : (c : CoreCall) → def.child copying tree locals deeper c ≡ flat.child tree locals deeper c
     child_is (CallOf root steps at given) =
         both (callee_same tree locals deeper (number_in locals root.text) root steps _ _ (sees root steps (λ ls. links_same ls (type_of copying tree locals root) steps)))
-          (λ who. child_same tree locals deeper who _ _ (λ f captures body. owns_same given body.params (passed_captures captures)))
+        (λ who. child_same tree locals deeper who _ _ (λ f captures body. owns_same given body.params (passed_captures captures)))
 
     owns_same : (given : CoreArgs) (params : List CoreParam) (ps : List Passed) → def.own_values copying tree locals deeper given params ps ≡ flat.own_gifts tree locals deeper given params ps
     owns_same NoArgs [] ps = refl
@@ -243,7 +243,7 @@ module _ (tree : Core) (locals : List Local) (deeper : Option (ℕ → Plain Flo
     owns_same (ValueArg x rest) [] ps = refl
     owns_same (ValueArg x rest) (p ∷ params) ps =
         both (own_same tree locals deeper p.conv (def.place_in copying tree locals deeper x) (flat.place_in tree locals deeper x) (def.value copying tree locals deeper x) (flat.value tree locals deeper x) (placed x) (value_same x))
-          (λ a. owns_same rest params (ps ++ a ∷ []))
+        (λ a. owns_same rest params (ps ++ a ∷ []))
     owns_same (RefArg at root steps rest) params ps = refl
 
     pub block_same : (b : CoreBlock) → def.block copying tree locals deeper b ≡ flat.block tree locals deeper b
@@ -253,10 +253,10 @@ module _ (tree : Core) (locals : List Local) (deeper : Option (ℕ → Plain Flo
     statements_same NoStmts opens = pure_first None (behind opens) ∙ sym (pure_first (None, opens) (λ r. behind r.1 r.0))
     statements_same (StmtOf x rest) opens =
         split (pay 1 (first_token x)) (λ paid. def.statement copying tree locals deeper x (def.statements copying tree locals deeper rest)) (behind opens)
-          (λ paid. statement_same x opens (def.statements copying tree locals deeper rest))
+        (λ paid. statement_same x opens (def.statements copying tree locals deeper rest))
         ∙ sym (split (pay 1 (first_token x)) (λ paid. flat.statement tree locals deeper x >>= (λ w. went w opens (flat.statements tree locals deeper rest))) (λ r. behind r.1 r.0)
-          (λ paid. split (flat.statement tree locals deeper x) (λ w. went w opens (flat.statements tree locals deeper rest)) (λ r. behind r.1 r.0)
-            (λ w. sym (went_same w opens (def.statements copying tree locals deeper rest) (flat.statements tree locals deeper rest) (λ more. statements_same rest more)))))
+        (λ paid. split (flat.statement tree locals deeper x) (λ w. went w opens (flat.statements tree locals deeper rest)) (λ r. behind r.1 r.0)
+        (λ w. sym (went_same w opens (def.statements copying tree locals deeper rest) (flat.statements tree locals deeper rest) (λ more. statements_same rest more)))))
 
     statement_same : (x : CoreStmt) (opens : List Access) (go : Plain Flow) → Does opens go (def.statement copying tree locals deeper x go) (flat.statement tree locals deeper x)
     statement_same (Var at name t) opens go = declares opens go tree locals name (holes tree t)
@@ -265,23 +265,23 @@ module _ (tree : Core) (locals : List Local) (deeper : Option (ℕ → Plain Flo
     statement_same (Inout at name t root steps) opens go = binds_place opens go tree locals Writes name _ _ (sees root steps (λ ls. links_same ls (type_of copying tree locals root) steps))
     statement_same (Assign at root steps x) opens go =
         does_then opens go _ _ (λ w. def_places.found copying tree locals root steps (def.indices copying tree locals deeper (type_of copying tree locals root) steps) >>= (λ f. copying.write f.0 w >>= (λ done. go))) (λ w. parts.found tree locals root (flat.links_from tree locals deeper [] (type_of copying tree locals root) steps) >>= (λ p. put_at p w >>= (λ done. pure Goes))) (value_same x)
-          (λ w. assigns opens go tree locals _ _ w (sees root steps (λ ls. links_same ls (type_of copying tree locals root) steps)))
+        (λ w. assigns opens go tree locals _ _ w (sees root steps (λ ls. links_same ls (type_of copying tree locals root) steps)))
     statement_same (If at branches) opens go = does_then opens go _ _ (unless_left go) flowed (choices_same branches) (λ flow. flows opens go flow)
     statement_same (While at test body) opens go = does_then opens go _ _ (unless_left go) flowed (λ i. repeated at (value_same test i) (block_same body i)) (λ flow. flows opens go flow)
     statement_same (Return at) opens go = leaves opens go (Fields Nil)
     statement_same (ReturnWith at x) opens go = does_then opens go _ _ (λ w. pure (Some w)) (λ w. pure (Leaves w)) (value_same x) (λ w. leaves opens go w)
     statement_same (Print at x) opens go =
         does_then opens go _ _ (λ w. say (text w ++ 10 ∷ []) >>= (λ done. go)) (λ w. say (text w ++ 10 ∷ []) >>= (λ done. pure Goes)) (value_same x)
-          (λ w. does_then opens go _ _ (λ done. go) (λ done. pure Goes) refl (λ done. goes_on opens go))
+        (λ w. does_then opens go _ _ (λ done. go) (λ done. pure Goes) refl (λ done. goes_on opens go))
     statement_same (Task at name t word budget c) opens go =
         does_then opens go _ _ _ _ (value_same budget)
-          (λ k. does_then opens go _ _ _ _ (child_is c)
-            (λ what. does_then opens go (number k) (number k) _ _ refl
-              (λ z. does_then opens go (parts.local tree locals name) (parts.local tree locals name) _ _ refl
-                (λ h. does_then opens go (spawned copying tree locals deeper h word z what) (spawned copying tree locals deeper h word z what) (λ done. go) (λ done. pure Goes) refl (λ done. goes_on opens go)))))
+        (λ k. does_then opens go _ _ _ _ (child_is c)
+        (λ what. does_then opens go (number k) (number k) _ _ refl
+        (λ z. does_then opens go (parts.local tree locals name) (parts.local tree locals name) _ _ refl
+        (λ h. does_then opens go (spawned copying tree locals deeper h word z what) (spawned copying tree locals deeper h word z what) (λ done. go) (λ done. pure Goes) refl (λ done. goes_on opens go)))))
     statement_same (AwaitsAlone at name) opens go =
         does_then opens go (parts.local tree locals name) (parts.local tree locals name) (λ h. copying.await h >>= (λ w. go)) (λ h. copying.await h >>= (λ w. pure Goes)) refl
-          (λ h. does_then opens go (copying.await h) (copying.await h) (λ w. go) (λ w. pure Goes) refl (λ w. goes_on opens go))
+        (λ h. does_then opens go (copying.await h) (copying.await h) (λ w. go) (λ w. pure Goes) refl (λ w. goes_on opens go))
     statement_same (CallsAlone at c) opens go = does_then opens go _ _ (λ w. go) (λ w. pure Goes) (call_same c) (λ w. goes_on opens go)
     statement_same (Bare at b) opens go = does_then opens go _ _ (unless_left go) flowed (block_same b) (λ flow. flows opens go flow)
 
