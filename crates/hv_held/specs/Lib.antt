@@ -1,0 +1,6 @@
+-- what the public clauses rest on
+pub mod HeldTree
+pub mod Ways
+pub mod Results
+-- what the functions inside promise each other
+pub mod OneStep
