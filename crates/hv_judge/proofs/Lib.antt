@@ -1,0 +1,15 @@
+pub mod Members
+pub mod Exact
+pub mod Deciding
+pub mod TypeRule
+pub mod OtherRules
+pub mod Sound
+pub mod Whole
+pub mod Program
+pub mod Added
+pub mod Places
+pub mod Steps
+pub mod Wanted
+pub mod Roots
+pub mod Args
+pub mod Parted

@@ -1,0 +1,4 @@
+pub mod Opened
+pub mod Callees
+pub mod Elements
+pub mod Loops
