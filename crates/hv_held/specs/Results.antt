@@ -3,7 +3,7 @@ use Rattle.std.specs.Prelude.{◌≡◌, ◌≤◌, ◌<◌, ℕ, ℤ, pos, negs
 use Rattle.hv_value.specs.ValueTree.{ValueTree, Number}
 use Rattle.hv_value.specs.Operators.{Given, Gives, Overflow, DivZero}
 use Rattle.hv_held.specs.declared.arrays.Length.{Length}
-use Rattle.hv_held.specs.declared.arrays.Length.TheVariants as length
+use Rattle.hv_held.specs.declared.arrays.Length.TheVariants as asked
 use Rattle.hv_held.specs.declared.operate.Computed.{Computed}
 use Rattle.hv_held.specs.declared.operate.Computed.TheVariants as computed
 use Rattle.hv_held.specs.HeldTree.{held_tree}
@@ -15,9 +15,9 @@ given_of computed.DivZero = DivZero
 
 -- which of the three a length is
 abbrev pub Lengths : ℤ → Length → Type 0
-Lengths z (length.Right n) = (z ≡ pos n) × (n ≤ 1048576)
-Lengths z length.Bad = (n : ℕ) × (z ≡ negsuc n)
-Lengths z length.TooLong = (n : ℕ) × (z ≡ pos n) × (1048576 < n)
+Lengths z (asked.Right n) = (z ≡ pos n) × (n ≤ 1048576)
+Lengths z asked.Bad = (n : ℕ) × (z ≡ negsuc n)
+Lengths z asked.TooLong = (n : ℕ) × (z ≡ pos n) × (1048576 < n)
 
 -- ---- inside
 
