@@ -1,4 +1,0 @@
-pub mod LocalLemmas
-pub mod SpotLemmas
-pub mod AccessLemmas
-pub mod ComputeLemmas
