@@ -1,0 +1,4 @@
+pub mod LocalLemmas
+pub mod SpotLemmas
+pub mod AccessLemmas
+pub mod ComputeLemmas
