@@ -1,4 +1,4 @@
-# Sources for benchmarks. source_of KIND BYTES writes one of nearly so many bytes.
+# Sources for benchmarks of `hv`, and the measurement over them. source_of KIND BYTES writes one of nearly so many bytes.
 source_of() {
     local head part tail count
     case $1 in
@@ -43,3 +43,25 @@ rates() {
         exit high / low > 1.3
     }'
 }
+
+# measure COMMAND SIZE..: prints the rates of `hv COMMAND` for each kind of source at these sizes; show is timed over
+# what it wrote of the source. Needs `program` and `folder`.
+measure() {
+    local command=$1 kind size times status=0
+    shift
+    for kind in ordinary chain block elses; do
+        times=''
+        for size in "$@"; do
+            source_of "$kind" "$size" > "$folder/source"
+            "$program" "$command" - < "$folder/source" > "$folder/written"
+            if [ "$command" = show ]; then mv "$folder/written" "$folder/source"; fi
+            times="$times $(least_time "$folder/source" "$size" "$program" "$command" -)"
+        done
+        echo "$kind $times" | rates || status=1
+    done
+    return $status
+}
+
+program=${1:-crates/hv/out/hv}
+folder=$(mktemp -d)
+trap 'rm -rf "$folder"' EXIT
