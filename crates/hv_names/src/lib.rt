@@ -4,7 +4,7 @@
 mod declared;
 mod decls;
 mod entry;
-mod first;
+mod least;
 mod phases;
 mod program;
 #[cfg(test)]
@@ -12,4 +12,5 @@ mod tests;
 mod types;
 mod walk;
 
+pub use least::first;
 pub use phases::names;

@@ -5,7 +5,8 @@ ghost use Rattle.hv_rules.specs.Earlier.{IsFirst};
 use hv_rules::earlier;
 use hv_tree::Refusal;
 
-pub(crate) fn first(found: &[Refusal]) -> Option<Refusal>
+/// The first of these, or none where there is none.
+pub fn first(found: &[Refusal]) -> Option<Refusal>
     ensures { IsFirst (Contains found.now) result }
 {
     let mut best = None;

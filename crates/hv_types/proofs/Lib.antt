@@ -1,0 +1,10 @@
+pub mod Walks
+pub mod Depths
+pub mod Entries
+pub mod RoundLemmas
+pub mod Numbers
+pub mod CountLemmas
+pub mod Users
+pub mod Graph
+pub mod Held
+pub mod Great
