@@ -1,8 +1,8 @@
 -- Structs that are too great, and the first violation of all.
-use Rattle.std.proofs.Common.{◌≡◌, ◌⊎◌, inl, inr, ℕ, Bool, true, false, not, ◌||◌, ◌&&◌, nat_lt, List, [], ◌∷◌, ◌++◌, length, get_or, Option, Some, None, Contains, subst, refl, sym, ap, ◌∙◌}
+use Rattle.std.proofs.Common.{◌≡◌, inl, inr, ℕ, not, ◌||◌, nat_lt, List, [], ◌∷◌, ◌++◌, length, Option, Some, None, Contains, subst, refl, sym, ap, ◌∙◌}
 use Rattle.hv_tree.specs.declared.refusal.Rule.TheVariants as rule
 use Rattle.hv_tree.specs.declared.refusal.Refusal.{Refusal}
-use Rattle.hv_tree.specs.Core.{Core, CoreDecl, StructOf, FunOf, CoreStruct}
+use Rattle.hv_tree.specs.Core.{Core, CoreDecl, StructOf, FunOf}
 use Rattle.hv_rules.specs.Types.{StructType, within, leaves_of, most_depth, most_leaves}
 use Rattle.hv_rules.specs.Earlier.{IsFirst}
 use Rattle.hv_rules.specs.Accepted.{NamePhase, TypePhase, IsFirstOf, IsViolatedInPhase}

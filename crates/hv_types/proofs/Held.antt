@@ -1,10 +1,10 @@
 -- The structs that the table says have functions in them are those whose values have function values in them.
-use Rattle.std.proofs.Common.{◌≡◌, ◌⊎◌, inl, inr, ℕ, zero, suc, Bool, true, false, if◌then◌else◌, nat_eq, List, [], ◌∷◌, ◌++◌, map, get_or, Option, Some, None, is_some, Contains, Decides, subst, refl, sym, ap, ◌∙◌, arith}
+use Rattle.std.proofs.Common.{◌≡◌, ◌⊎◌, inl, inr, ℕ, suc, Bool, true, false, if◌then◌else◌, List, [], ◌∷◌, map, Option, Some, None, is_some, Contains, subst, refl, sym, ap, ◌∙◌}
 use Rattle.std.specs.List.{slice_get}
 use Rattle.std.specs.Str.{bytes_eq}
 use Rattle.std.proofs.lemmas.Slice.Eq.{bytes_eq-Decides}
 use Rattle.std.proofs.lemmas.Bool.Decides.{Decides-eqb}
-use Rattle.hv_tree.specs.Core.{Core, CoreDecl, CoreStruct}
+use Rattle.hv_tree.specs.Core.{Core, CoreStruct}
 use Rattle.hv_rules.specs.Types.{ValueType, IntType, BoolType, StructType, ArrayType, FunType, FunToType, type_of_field, field_types, fields_or_none, struct_in}
 use Rattle.hv_rules.specs.TypeRules.{HoldsFunction, is_fun, is_fun_to, in_element, in_field}
 use Rattle.hv_scope.specs.Tops.{structs_in, struct_number}

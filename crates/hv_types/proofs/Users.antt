@@ -1,11 +1,7 @@
 -- What is found from field to struct is exactly what has functions in it.
-use Rattle.std.proofs.Common.{◌≡◌, ◌≢◌, ◌↔◌, ◌⊎◌, inl, inr, ◌≤◌, ◌<◌, ◌+◌, ℕ, zero, suc, Bool, true, false, if◌then◌else◌, ◌||◌, List, [], ◌∷◌, ◌++◌, length, get_or, Option, Some, None, Contains, refl, sym, ap, ◌∙◌, arith}
+use Rattle.std.proofs.Common.{◌≡◌, ◌≢◌, ◌⊎◌, inl, inr, ◌≤◌, ◌<◌, ◌+◌, ℕ, zero, suc, true, false, List, [], ◌∷◌, ◌++◌, length, Some, None, refl, sym, ap, ◌∙◌, arith}
 use Rattle.std.specs.List.{slice_get, slice_set}
-use Rattle.std.proofs.lemmas.Option.{slice_get_within, slice_get-get_or, get_or_from_slice_get}
-use Rattle.hv_types.specs.declared.fields.FieldType.{FieldType}
-use Rattle.hv_types.specs.declared.fields.FieldBase.{FieldBase}
-use Rattle.hv_types.specs.declared.fields.FieldBase.TheVariants as base
-use Rattle.hv_types.specs.Table.{HoldsAt, at_once, through, row_at}
+use Rattle.std.proofs.lemmas.Option.{slice_get_within, get_or_from_slice_get}
 use Rattle.hv_types.specs.Holders as spec
 use Rattle.hv_types.specs.Holders.{Reached, begins, follows, users_at}
 use Rattle.hv_judge.proofs.Members.{Among, in_left, in_right, either_in, listed, contained}

@@ -1,5 +1,5 @@
 -- The structs that have functions in them, found from field to struct: each struct's users are taken once.
-use Rattle.std.specs.Prelude.{◌≡◌, ◌↔◌, ℕ, zero, suc, Bool, true, false, if◌then◌else◌, ◌||◌, List, [], ◌∷◌, ◌++◌, map, get_or, Contains}
+use Rattle.std.specs.Prelude.{◌↔◌, ℕ, zero, suc, Bool, true, false, if◌then◌else◌, ◌||◌, List, [], ◌∷◌, ◌++◌, get_or, Contains}
 use Rattle.hv_types.specs.declared.fields.FieldType.{FieldType}
 use Rattle.hv_types.specs.declared.fields.FieldBase.{FieldBase}
 use Rattle.hv_types.specs.declared.fields.FieldBase.TheVariants as base

@@ -1,5 +1,5 @@
 -- What the table says of structs by name, and all that is judged wrong in a program.
-use Rattle.std.specs.Prelude.{◌≡◌, ℕ, Bool, true, false, if◌then◌else◌, not, ◌||◌, nat_eq, nat_lt, List, [], ◌∷◌, ◌++◌, get_or, Option, Some, None, Decides}
+use Rattle.std.specs.Prelude.{◌≡◌, ℕ, Bool, false, if◌then◌else◌, not, ◌||◌, nat_eq, nat_lt, List, [], ◌∷◌, ◌++◌, get_or, Option, Some, None, Decides}
 use Rattle.std.specs.List.{slice_get}
 use Rattle.hv_tree.specs.declared.refusal.Rule.TheVariants as rule
 use Rattle.hv_tree.specs.declared.refusal.Refusal.{Refusal}
