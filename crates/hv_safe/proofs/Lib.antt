@@ -1,0 +1,10 @@
+pub mod Ends
+pub mod Inside
+pub mod Lists
+pub mod Fits
+pub mod Ways
+pub mod Asked
+pub mod Accepted
+pub mod Matches
+pub mod Named
+pub mod Pieces
