@@ -8,3 +8,4 @@ pub mod Accepted
 pub mod Matches
 pub mod Named
 pub mod Pieces
+pub mod Constructs
