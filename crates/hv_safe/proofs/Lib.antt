@@ -9,3 +9,4 @@ pub mod Matches
 pub mod Named
 pub mod Pieces
 pub mod Constructs
+pub mod Parts

@@ -91,10 +91,10 @@ is_function tree s place (FunType params) n = tt
 is_function tree s place (FunToType params t) n = tt
 
 module _ {tree : Core} (ok : Accepted tree) (body : CoreBody) (good : Good tree body) (edge : ℕ) (s : Scope) (refs : List ValueType) where
-  root_type : {text : List ℕ} (r : IsLocal body edge s text) → value_of (local_in (locals_of body) text) ≡ Some r.there.ty
+  pub root_type : {text : List ℕ} (r : IsLocal body edge s text) → value_of (local_in (locals_of body) text) ≡ Some r.there.ty
   root_type r = ap value_of r.found ∙ r.there.typed
 
-  root_here : {text : List ℕ} (r : IsLocal body edge s text) → value_of (local_in s.visible text) ≡ Some r.there.ty
+  pub root_here : {text : List ℕ} (r : IsLocal body edge s text) → value_of (local_in s.visible text) ≡ Some r.there.ty
   root_here r = ap value_of r.here ∙ r.there.typed
 
   -- a place by its root's number and its links
@@ -124,7 +124,7 @@ module _ {tree : Core} (ok : Accepted tree) (body : CoreBody) (good : Good tree 
       let b = body_numbered ok (fun_body f) g.listed in
       then_known Kinds (body_number (bodies_of tree) f.body) b.0 _ b.1 (gives (Closure b.0 Nil) (f_closure (fun_body f) b.2 g refl locals_none))
 
-  no_local_value : {text : List ℕ} → IsTop tree body s text → NoValue (local_in s.visible text)
+  pub no_local_value : {text : List ℕ} → IsTop tree body s text → NoValue (local_in s.visible text)
   no_local_value t = subst NoValue (sym t.here) tt
 
   pub top_is_value : (at : Place) (root : Name) (steps : CoreSteps) → Among (sites_of tree) (site s (ExprPart (Path at root steps))) → IsTop tree body s root.text →
