@@ -10,3 +10,4 @@ pub mod Named
 pub mod Pieces
 pub mod Constructs
 pub mod Parts
+pub mod Theorem

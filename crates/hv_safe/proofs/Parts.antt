@@ -350,7 +350,7 @@ module _ {tree : Core} (ok : Accepted tree) (body : CoreBody) (good : Good tree 
         (λ w f. args_ok rest edge s sc ir params (λ p j. lets p (inr j)) refs rest_fine (ls ++ param_local q ∷ []) (ps ++ Value Reads w ∷ []) (passed_more p (value_passed (meant q.ty) refl f none_passed)) go result on)
         (args_ok rest edge s sc ir params (λ p j. lets p (inr j)) (refs ++ meant q.ty ∷ []) rest_fine (ls ++ param_local q ∷ []) (ps ++ Lent (used body refs) ∷ []) (passed_more (passed_still (meant q.ty) p) (lent_passed (meant q.ty) (length refs) refl (last_there refs (meant q.ty)) refl none_passed)) go result on))
 
-    block_ok : (b : CoreBlock) (edge : ℕ) (s : Scope) (sc : Scoped body edge s) → Sits body edge (in_block b) → AllIn tree (block_sites b s) →
+    pub block_ok : (b : CoreBlock) (edge : ℕ) (s : Scope) (sc : Scoped body edge s) → Sits body edge (in_block b) → AllIn tree (block_sites b s) →
         Does (used body []) (State tree body s []) (λ flow e. Leaves tree body.result (block_returns b) flow × State tree body s [] e) (block copying tree (locals_of body) deeper b)
     block_ok (BlockOf stmts end) edge s sc z i = stmts_ok stmts edge s sc z i
 
