@@ -11,3 +11,5 @@ pub mod Pieces
 pub mod Constructs
 pub mod Parts
 pub mod Theorem
+-- examples
+mod Examples
