@@ -11,5 +11,9 @@ pub mod Pieces
 pub mod Constructs
 pub mod Parts
 pub mod Theorem
+pub mod CoreParts
+pub mod Comes
+pub mod Braces
+pub mod Spelled
 -- examples
 mod Examples

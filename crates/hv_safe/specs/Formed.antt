@@ -3,7 +3,8 @@ use Rattle.std.specs.Prelude.{◌≡◌, ◌⊎◌, ℕ, List, Option, Some, Non
 use Rattle.std.specs.List.{slice_get}
 use Rattle.hv_tree.specs.declared.ast.Operator.{Operator}
 use Rattle.hv_tree.specs.declared.ast.Operator.TheVariants as operator
-use Rattle.hv_tree.specs.Tokens.{Level, Ors, Ands, Comparisons, Sums, Products}
+use Rattle.hv_tree.specs.declared.token.Token.{Token}
+use Rattle.hv_tree.specs.Tokens.{Tokens, Level, Ors, Ands, Comparisons, Sums, Products}
 use Rattle.hv_tree.specs.Core.{Core, CoreExpr, Array, Prefix, Chain, CoreExprs, NoExprs, ExprOf, CoreLinks, NoLinks, LinkOf}
 use Rattle.hv_rules.specs.Locals.{CoreBody}
 use Rattle.hv_rules.specs.Sites.{Part, ExprPart, CallPart, PlacePart, StmtPart, TestPart, Site, sites_of, bodies_of}
@@ -64,3 +65,7 @@ IsBody tree n body = slice_get (bodies_of tree) n ≡ Some body
 pub record IsFormed (tree : Core) : Type 0 where
   pub parts : (w : Site) → Contains (sites_of tree) w → PartIsFormed w.part
   pub apart : (m n : ℕ) (a b : CoreBody) → IsBody tree m a → IsBody tree n b → (end_of a.block).start ≡ (end_of b.block).start → m ≡ n
+
+-- no two tokens stand at one place
+pub record AreApart (tokens : Tokens) : Type 0 where
+  pub apart : (m n : ℕ) (a b : Token) → slice_get tokens m ≡ Some a → slice_get tokens n ≡ Some b → a.place.start ≡ b.place.start → m ≡ n
