@@ -1,5 +1,5 @@
 -- Numbers that are places of tokens, each of a token of its own.
-use Rattle.std.proofs.Common.{◌≡◌, ℕ, zero, suc, ◌+◌, ◌≤◌, ◌==◌, Bool, true, false, if◌then◌else◌, List, [], ◌∷◌, ◌++◌, Option, Some, None, arith, refl, sym, ap, ◌∙◌, subst}
+use Rattle.std.proofs.Common.{◌≡◌, ℕ, zero, suc, ◌+◌, ◌<◌, ◌≤◌, ◌==◌, Bool, true, false, if◌then◌else◌, List, [], ◌∷◌, ◌++◌, Option, Some, None, arith, refl, sym, ap, ◌∙◌, subst}
 use Rattle.std.specs.List.{slice_get}
 use Rattle.std.proofs.lemmas.Bool.{eqb-true, eq-eqb}
 use Rattle.hv_tree.specs.declared.token.Token.{Token}
@@ -106,3 +106,35 @@ one_place (k ∷ ns) h (suc i) (suc j) m e f = ap suc (one_place ns (λ n. omega
 
 pub each_once : (ts : Tokens) (ns : List ℕ) → AreApart ts → Comes ts ns → (i j m : ℕ) → slice_get ns i ≡ Some m → slice_get ns j ≡ Some m → i ≡ j
 each_once ts ns a h i j m e f = one_place ns (λ n. omega (arith, h.at_most n, at_most_one n ts a)) i j m e f
+
+-- ---- tokens that rise, as those of a source do
+
+abbrev pub Rises : Tokens → Type 0
+Rises [] = Unit {0}
+Rises (t ∷ []) = Unit {0}
+Rises (t ∷ (u ∷ ts)) = (t.place.start < u.place.start) × Rises (u ∷ ts)
+
+behind : (t : Token) (ts : Tokens) → Rises (t ∷ ts) → (k : ℕ) (u : Token) → slice_get ts k ≡ Some u → t.place.start < u.place.start
+behind t [] r k u e = cc
+behind t (v ∷ ts) r zero u e = let same : v ≡ u = cc in subst (λ (w : Token). t.place.start < w.place.start) same r.0
+behind t (v ∷ ts) r (suc k) u e = omega (arith, r.0, behind v ts r.1 k u e)
+
+rest_rises : (t : Token) (ts : Tokens) → Rises (t ∷ ts) → Rises ts
+rest_rises t [] r = tt
+rest_rises t (u ∷ ts) r = r.1
+
+pub rising_apart : (ts : Tokens) → Rises ts → AreApart ts
+rising_apart ts r = record { apart = at ts r }
+  where
+    at : (ts : Tokens) → Rises ts → (m n : ℕ) (a b : Token) → slice_get ts m ≡ Some a → slice_get ts n ≡ Some b → a.place.start ≡ b.place.start → m ≡ n
+    at [] r m n a b e f g = cc
+    at (t ∷ ts) r zero zero a b e f g = refl
+    at (t ∷ ts) r zero (suc n) a b e f g =
+        let same : t ≡ a = cc in
+        let one : t.place.start ≡ b.place.start = ap (λ (w : Token). w.place.start) same ∙ g in
+        absurd (omega (arith, behind t ts r n b f, one))
+    at (t ∷ ts) r (suc m) zero a b e f g =
+        let same : t ≡ b = cc in
+        let one : t.place.start ≡ a.place.start = ap (λ (w : Token). w.place.start) same ∙ sym g in
+        absurd (omega (arith, behind t ts r m a e, one))
+    at (t ∷ ts) r (suc m) (suc n) a b e f g = ap suc (at ts (rest_rises t ts r) m n a b e f g)

@@ -17,3 +17,4 @@ pub mod Braces
 pub mod Spelled
 -- examples
 mod Examples
+mod SpelledExample
