@@ -1,24 +1,22 @@
 -- What holds in a program that violates no rule of names or types.
-use Rattle.std.proofs.Common.{◌≡◌, ◌≢◌, ◌⊎◌, inl, inr, ℕ, zero, suc, ◌+◌, ◌<◌, Bool, true, false, List, [], ◌∷◌, ◌++◌, map, Option, Some, None, Contains, codes, arith, refl, sym, ap, ◌∙◌, subst}
+use Rattle.std.proofs.Common.{◌≡◌, ◌⊎◌, inl, inr, ℕ, ◌+◌, ◌<◌, List, [], ◌∷◌, ◌++◌, map, Option, Some, None, codes, arith, refl, sym, ap, ◌∙◌, subst}
 use Rattle.std.specs.List.{slice_get}
 use Rattle.hv_tree.specs.declared.place.Place.{Place}
 use Rattle.hv_tree.specs.declared.types.Name.{Name}
 use Rattle.hv_tree.specs.declared.refusal.Rule.{Rule}
 use Rattle.hv_tree.specs.declared.refusal.Rule.TheVariants as rule
-use Rattle.hv_tree.specs.declared.refusal.Refusal.{Refusal}
 use Rattle.hv_tree.specs.Core.{Core, CoreDecl, StructOf, FunOf, CoreFun, CoreStruct, CoreParam, CoreTy, CoreBlock, BlockOf, CoreStmts, NoStmts, StmtOf, CoreBranches, NoElse, Else, BranchOf, CoreStmt, Var, VarWith, Let, Inout, Assign, If, While, Return, ReturnWith, Print, Task, AwaitsAlone, CallsAlone, Bare}
 use Rattle.hv_rules.specs.Types.{ValueType, struct_in, fun_in}
-use Rattle.hv_rules.specs.Locals.{LocalKind, Captured, Passed, VarBound, LetBound, InoutBound, Handle, Local, CoreBody, fun_body, entry_locals, locals_of, declared_in, in_branches, in_block, in_stmts, number_in, local_in, value_by}
+use Rattle.hv_rules.specs.Locals.{Captured, VarBound, LetBound, InoutBound, Handle, Local, CoreBody, fun_body, entry_locals, locals_of, declared_in, in_branches, in_block, in_stmts, number_in, local_in, value_by}
 use Rattle.hv_rules.specs.Sites.{Scope, Site, sites_of, sites_of_body, lambdas_at, decl_bodies, bodies_of}
-use Rattle.hv_rules.specs.Names.{Named, Repeats, decl_name, local_name, top_level, in_body, shared, SharesName, NothingVisible, used_by, as_used, captured_by, as_captured, NoLocal, HasMain, IsViolatedByNames}
+use Rattle.hv_rules.specs.Names.{Named, decl_name, top_level, in_body, shared, NothingVisible, used_by, as_used, captured_by, as_captured, NoLocal, HasMain, IsViolatedByNames}
 use Rattle.hv_rules.specs.TypeRules.{ViolatesType, IsViolatedByTypes, at_part}
-use Rattle.hv_rules.specs.Accepted.{Phase, NamePhase, TypePhase, phase_of, IsFirstOf}
+use Rattle.hv_rules.specs.Accepted.{NamePhase, TypePhase, phase_of, IsFirstOf}
 use Rattle.hv_copying.specs.Places.{body_number}
 use Rattle.hv_judge.proofs.Members.{Among, in_left, in_right, either_in, listed, contained}
 use Rattle.hv_safe.specs.Formed.{IsFormed, IsBody}
 use Rattle.hv_safe.specs.Runs.{Runs}
-use Rattle.hv_safe.proofs.Inside.{Good}
-use Rattle.hv_safe.proofs.Lists.{among_at, at_among, map_among, Distinct, distinct, numbered, named, local_found, local_lacks, no_number, fun_found, struct_found, fun_lacks, no_decl, same_decl, number_finds}
+use Rattle.hv_safe.proofs.Lists.{at_among, map_among, Distinct, distinct, numbered, named, local_found, local_lacks, no_number, fun_found, struct_found, fun_lacks, no_decl, same_decl, number_finds}
 
 pub record Accepted (tree : Core) : Type 0 where
   pub names : (r : Rule) (place : Place) → phase_of r ≡ Some NamePhase → IsViolatedByNames tree r place → ⊥
@@ -121,14 +119,30 @@ shares {tree = tree} ok body l d b h k i e = by (stands tree.decls body b)
       where
         early : Among (s.front ++ s.decl ∷ []) d → ⊥
         early j = ok.names rule.N1 l.name.place refl (shared (record {
-          before = s.front; decl = s.decl; after = s.back; is = s.is; body = body; of = contained (decl_bodies (s.decl ∷ [])) body s.of;
-          local = l; declared = contained (locals_of body) l h; own = k; later = inl (named_in (s.front ++ s.decl ∷ []) d l.name.text j e, refl);
+          before = s.front;
+          decl = s.decl;
+          after = s.back;
+          is = s.is;
+          body = body;
+          of = contained (decl_bodies (s.decl ∷ [])) body s.of;
+          local = l;
+          declared = contained (locals_of body) l h;
+          own = k;
+          later = inl (named_in (s.front ++ s.decl ∷ []) d l.name.text j e, refl);
         }))
 
         late : Among s.back d → ⊥
         late j = ok.names rule.N1 (decl_name d).place refl (shared (record {
-          before = s.front; decl = s.decl; after = s.back; is = s.is; body = body; of = contained (decl_bodies (s.decl ∷ [])) body s.of;
-          local = l; declared = contained (locals_of body) l h; own = k; later = inr (decl_name d, contained (map decl_name s.back) (decl_name d) (map_among decl_name s.back d j), e, refl);
+          before = s.front;
+          decl = s.decl;
+          after = s.back;
+          is = s.is;
+          body = body;
+          of = contained (decl_bodies (s.decl ∷ [])) body s.of;
+          local = l;
+          declared = contained (locals_of body) l h;
+          own = k;
+          later = inr (decl_name d, contained (map decl_name s.back) (decl_name d) (map_among decl_name s.back d j), e, refl);
         }))
 
         at : Among s.front d ⊎ Among (s.decl ∷ s.back) d → ⊥
@@ -175,7 +189,10 @@ is_local body edge s text l d sc e =
     let f = local_found s.visible text l e in
     let n = sc.seen l f.0 in
     record {
-      local = l; visible = f.0; there = n; here = e;
+      local = l;
+      visible = f.0;
+      there = n;
+      here = e;
       found = subst (λ t. local_in (locals_of body) t ≡ Some l) f.1 (named (locals_of body) n.number l d n.at);
       numbered = subst (λ t. number_in (locals_of body) t ≡ Some n.number) f.1 (numbered (locals_of body) n.number l d n.at);
     }

@@ -1,21 +1,21 @@
 -- What constructs come to, over the runs of their parts.
-use Rattle.std.proofs.Common.{◌≡◌, ◌≢◌, ◌⊎◌, inl, inr, ℕ, zero, suc, ◌+◌, ◌<◌, pos, Bool, true, false, if◌then◌else◌, List, [], ◌∷◌, ◌++◌, map, length, Option, Some, None, length-append, arith, refl, sym, ap, ◌∙◌, subst}
+use Rattle.std.proofs.Common.{◌≡◌, ◌≢◌, inl, inr, ℕ, suc, ◌+◌, pos, List, [], ◌∷◌, ◌++◌, map, length, Option, Some, None, length-append, arith, refl, sym, ap, ◌∙◌, subst}
 use Rattle.std.specs.List.{slice_get}
 use Rattle.std.proofs.lemmas.Option.{slice_get_within}
 use Rattle.hv_tree.specs.declared.place.Place.{Place}
 use Rattle.hv_tree.specs.declared.types.Name.{Name}
 use Rattle.hv_tree.specs.declared.types.Conv.TheVariants as conv
-use Rattle.hv_tree.specs.Core.{Core, CoreStruct, CoreParam, CoreTy, CoreExpr, CoreSteps, FieldStep, IndexStep}
-use Rattle.hv_rules.specs.Types.{ValueType, IntType, StructType, ArrayType, meant, option_meant, params_of, type_of_field, fields_or_none, FieldAt, element_of, struct_in}
-use Rattle.hv_rules.specs.Locals.{Captured, Local, CoreBody, param_local, entry_locals, locals_of, in_block, number_in, value_by, value_of}
+use Rattle.hv_tree.specs.Core.{Core, CoreStruct, CoreTy, CoreExpr, CoreSteps, FieldStep, IndexStep}
+use Rattle.hv_rules.specs.Types.{ValueType, IntType, ArrayType, meant, option_meant, params_of, type_of_field, fields_or_none, FieldAt, element_of}
+use Rattle.hv_rules.specs.Locals.{Captured, Local, CoreBody, entry_locals, locals_of, in_block, number_in, value_by, value_of}
 use Rattle.hv_rules.specs.Sites.{Scope, capture_local, bodies_of}
 use Rattle.hv_rules.specs.Events.{type_behind, type_at, field_at, element_at}
 use Rattle.hv_rules.specs.Typing.{Known, Unknown, Nothing, Is, or_nothing, Signature, Signed, wanted_params, by_struct, gives as signature_gives}
 use Rattle.hv_rules.specs.Typing as typing
 use Rattle.hv_rules.specs.TypeRules.{expr_place, Misfits, StepMisfits, StepsT3}
-use Rattle.hv_value.specs.ValueTree.{ValueTree, Number, Fields, Elements, Parts, Nil, Cons, row}
+use Rattle.hv_value.specs.ValueTree.{ValueTree, Number, Fields, Parts, Nil, Cons, row}
 use Rattle.hv_value.specs.Walk.{Link, ToField, ToIndex}
-use Rattle.hv_value.specs.Operators.{length_of, count}
+use Rattle.hv_value.specs.Operators.{count}
 use Rattle.hv_copying.specs.declared.end.TrapKind.TheVariants as trap_kind
 use Rattle.hv_copying.specs.declared.end.Cause.TheVariants.{Kinds, Holes}
 use Rattle.hv_copying.specs.Run.{Run, Flow, ◌>>=◌, pure, known as is_known}
@@ -25,7 +25,7 @@ use Rattle.hv_copying.specs.Operations.{number}
 use Rattle.hv_copying.specs.Places.{all_of, counted, declared, all_found, captured}
 use Rattle.hv_copying.specs.Calls.{Deeper, Callee, Constructs, Enters, Placed, result_of, call_by, pass_value, entered}
 use Rattle.hv_copying.specs.Blocks.{bound}
-use Rattle.hv_copying.specs.Copying.{Locals, tree_at, without, returned, copying}
+use Rattle.hv_copying.specs.Copying.{Locals, tree_at, copying}
 use Rattle.hv_judge.proofs.Members.{Among}
 use Rattle.hv_safe.specs.Formed.{IsBody}
 use Rattle.hv_safe.proofs.Ends.{Does, bind, next, given, before, behind, gives, then_known, then_pay, traps, refers, writes, reads_under, calls}
@@ -34,8 +34,8 @@ use Rattle.hv_safe.proofs.Lists.{get_left, among_at, Distinct, numbered}
 use Rattle.hv_safe.proofs.Fits.{Fits, FitAll, FitLocals, locals_none, locals_more, f_fields, f_number, is_elements}
 use Rattle.hv_safe.proofs.Ways.{LinksFit, l_end, l_field, l_index}
 use Rattle.hv_safe.proofs.Asked.{ValueOf, stable, asked, then_number}
-use Rattle.hv_safe.proofs.Accepted.{Accepted, IsLocal, Seen, Scoped, all_distinct}
-use Rattle.hv_safe.proofs.Matches.{Matches, one_number, declares, clears, forgets, lends, gives_back, IsPlace, finds_place, PassedFit, enters as enters_with, comes_back}
+use Rattle.hv_safe.proofs.Accepted.{Accepted, IsLocal, all_distinct}
+use Rattle.hv_safe.proofs.Matches.{Matches, declares, clears, forgets, lends, gives_back, IsPlace, finds_place, PassedFit, enters as enters_with, comes_back}
 use Rattle.hv_safe.proofs.Named.{used, State, StepsFine, Behind, Copied, PlaceOf, copies, CalleeFits, constructs, enters}
 use Rattle.hv_safe.proofs.Pieces.{array_type, struct_field, entry_typed}
 
@@ -158,7 +158,7 @@ module _ {tree : Core} (ok : Accepted tree) (body : CoreBody) (s : Scope) where
   pub calls_by : (refs : List ValueType) (sig : Signature) (who : Callee) (parts : Run (Unit {0}) Locals (List ValueTree)) (go : ℕ → Parts → CoreBody → Run (Unit {0}) Locals Flow) → CalleeFits tree sig who →
       ((c : CoreStruct) → sig ≡ by_struct (Some c) → Does (used body refs) (State tree body s refs) (λ ws e. FitAll tree (map type_of_field c.fields) (row ws) × State tree body s refs e) parts) →
       ((f : ℕ) (vs : Parts) (b : CoreBody) → IsBody tree f b → Good tree b → FitLocals tree b.captures vs → sig ≡ Signed (wanted_params (params_of b.params)) (or_nothing (option_meant b.result)) →
-          Does (used body refs) (State tree body s refs) (λ flow e. Returned tree b.result flow × State tree body s refs e) (go f vs b)) →
+      Does (used body refs) (State tree body s refs) (λ flow e. Returned tree b.result flow × State tree body s refs e) (go f vs b)) →
       Does (used body refs) (State tree body s refs) (λ v e. ValueOf tree (signature_gives sig) v × State tree body s refs e) (call_by tree who parts go)
   calls_by refs sig Constructs parts go (constructs c e q) h k =
       next (h c q) (λ ws f.

@@ -1,16 +1,14 @@
 -- Runs that aren't stuck: what holds of the state before holds of what they give and the state after.
-use Rattle.std.proofs.Common.{◌≡◌, ℕ, zero, suc, Bool, true, false, nat_le, if◌then◌else◌, List, Option, Some, None, refl, sym, subst}
+use Rattle.std.proofs.Common.{◌≡◌, ℕ, zero, suc, Bool, true, false, nat_le, if◌then◌else◌, List, Option, Some, None, sym, subst}
 use Rattle.hv_tree.specs.declared.place.Place.{Place}
 use Rattle.hv_value.specs.ValueTree.{ValueTree, Truth}
-use Rattle.hv_value.specs.Places.{put}
 use Rattle.hv_value.specs.Walk.{Reached, Reaches, Outside, Lost, walk}
 use Rattle.hv_copying.specs.declared.end.TrapKind.{TrapKind}
-use Rattle.hv_copying.specs.declared.end.TrapKind.TheVariants as trap_kind
 use Rattle.hv_copying.specs.declared.end.Cause.{Cause}
 use Rattle.hv_copying.specs.declared.end.Cause.TheVariants.{Holes}
 use Rattle.hv_copying.specs.Node.{Id}
 use Rattle.hv_copying.specs.Run.{Task, Res, Is, Halted, Trap, Spent, after, Now, Run, Flow, and_then, ◌>>=◌, pure, trap, spent, known, pay, say, mine, become, with_reference, counted_from, unless_left}
-use Rattle.hv_copying.specs.Ops.{Target, Spot, Reads, Passed, Ops}
+use Rattle.hv_copying.specs.Ops.{Target, Spot, Reads, Passed}
 use Rattle.hv_copying.specs.Operations.{truth}
 use Rattle.hv_copying.specs.Blocks.{chosen, turns, repeated}
 use Rattle.hv_copying.specs.Copying.{Locals, tree_at, with_tree, arrived, at_spot, written, opened, without, closed, entering, returned, copying}

@@ -1,5 +1,5 @@
 -- Numbers and names in lists.
-use Rattle.std.proofs.Common.{◌≡◌, ◌≢◌, ◌⊎◌, inl, inr, ℕ, zero, suc, ◌+◌, ◌<◌, ◌==◌, Bool, true, false, if◌then◌else◌, List, [], ◌∷◌, ◌++◌, map, length, Option, Some, None, Contains, arith, refl, sym, ap, ◌∙◌, subst}
+use Rattle.std.proofs.Common.{◌≡◌, inl, inr, ℕ, zero, suc, ◌+◌, ◌==◌, Bool, true, false, if◌then◌else◌, List, [], ◌∷◌, ◌++◌, map, length, Some, None, arith, refl, sym, ap, ◌∙◌}
 use Rattle.std.specs.List.{slice_get}
 use Rattle.std.specs.Str.{bytes_eq}
 use Rattle.std.proofs.lemmas.Slice.Eq.{bytes_eq-Decides}
@@ -7,7 +7,7 @@ use Rattle.std.proofs.lemmas.Bool.{eqb-true, eq-eqb}
 use Rattle.hv_tree.specs.declared.place.Place.{Place}
 use Rattle.hv_tree.specs.declared.types.Name.{Name}
 use Rattle.hv_tree.specs.Core.{CoreDecl, StructOf, FunOf, CoreFun, CoreStruct, CoreField}
-use Rattle.hv_rules.specs.Types.{ValueType, meant, fun_in, struct_in, type_of_field, FieldAt, field_from}
+use Rattle.hv_rules.specs.Types.{meant, fun_in, struct_in, type_of_field, FieldAt, field_from}
 use Rattle.hv_rules.specs.Locals.{Local, CoreBody, number_from, number_in, local_in}
 use Rattle.hv_rules.specs.Names.{Repeats, Named, local_name, decl_name}
 use Rattle.hv_rules.specs.Events.{end_of}
@@ -99,9 +99,10 @@ first_again n ns m h e = let r = around ns m h in record { before = n ∷ r.fron
 
 pub distinct : (ls : List Local) → ((place : Place) → Repeats (map local_name ls) place → ⊥) → Distinct ls
 distinct [] n = tt
-distinct (l ∷ ls) n =
-    ((λ m h e. n m.name.place (first_again l.name (map local_name ls) m.name (map_among local_name ls m h) e)),
-    distinct ls (λ place r. n place (later_place l.name (map local_name ls) place r)))
+distinct (l ∷ ls) n = (
+  (λ m h e. n m.name.place (first_again l.name (map local_name ls) m.name (map_among local_name ls m h) e)),
+  distinct ls (λ place r. n place (later_place l.name (map local_name ls) place r)),
+)
 
 number_at : (n : ℕ) (ls : List Local) (x : ℕ) (l : Local) → Distinct ls → slice_get ls x ≡ Some l → number_from n ls l.name.text ≡ Some (n + x)
 number_at n [] x l d e = cc

@@ -1,23 +1,23 @@
 -- States in which locals and lent references hold values of their types.
-use Rattle.std.proofs.Common.{◌≡◌, ◌≢◌, ◌⊎◌, inl, inr, ℕ, zero, suc, ◌+◌, ◌<◌, ◌≤◌, List, [], ◌∷◌, ◌++◌, get_or, length, Option, Some, None, arith, refl, sym, ap, ◌∙◌, subst}
+use Rattle.std.proofs.Common.{◌≡◌, ◌≢◌, ◌⊎◌, inl, inr, ℕ, zero, suc, ◌+◌, ◌<◌, List, [], ◌∷◌, ◌++◌, get_or, length, Option, Some, arith, refl, sym, ap, ◌∙◌, subst}
 use Rattle.std.specs.List.{slice_get}
 use Rattle.std.proofs.lemmas.Option.{slice_get_within}
 use Rattle.hv_tree.specs.declared.place.Place.{Place}
 use Rattle.hv_tree.specs.Core.{Core}
 use Rattle.hv_rules.specs.Types.{ValueType}
 use Rattle.hv_rules.specs.Locals.{LocalKind, Captured, Passed, VarBound, LetBound, InoutBound, Handle, Local, CoreBody, entry_locals, locals_of, in_block, value_by}
-use Rattle.hv_value.specs.ValueTree.{ValueTree, Hole, Parts, Nil, Cons}
+use Rattle.hv_value.specs.ValueTree.{ValueTree, Hole, Parts}
 use Rattle.hv_value.specs.Places.{put}
-use Rattle.hv_value.specs.Walk.{Link, Reached, Reaches, Outside, walk}
+use Rattle.hv_value.specs.Walk.{Reached, walk}
 use Rattle.hv_copying.specs.Ops.{Target, Spot, Mode, Reads, Value, Lent}
 use Rattle.hv_copying.specs.Ops as ops
 use Rattle.hv_copying.specs.Calls.{passed_captures}
-use Rattle.hv_copying.specs.Copying.{Locals, tree_at, change_at, with_tree, at_spot, written, without, first_tree, callee_trees, entering, returned, copying}
+use Rattle.hv_copying.specs.Copying.{Locals, tree_at, change_at, with_tree, at_spot, written, without, callee_trees, entering, returned, copying}
 use Rattle.hv_judge.proofs.Members.{Among}
 use Rattle.hv_safe.proofs.Ends.{Does, Finds, looks}
 use Rattle.hv_safe.proofs.Fits.{Fits, FitLocals, locals_none, locals_more}
 use Rattle.hv_safe.proofs.Ways.{LinksFit, Arrives, arrives, falls_out, walks}
-use Rattle.hv_safe.proofs.Lists.{get_left, get_right, among_at, at_among, Distinct, numbered}
+use Rattle.hv_safe.proofs.Lists.{get_left, at_among, Distinct, numbered}
 
 pub record Matches (tree : Core) (body : CoreBody) (visible : List Local) (refs : List ValueType) (e : Locals) : Type 0 where
   -- each visible local has a value of its type

@@ -1,36 +1,34 @@
 -- Places, names and callees, over the runs of their indices.
-use Rattle.std.proofs.Common.{◌≡◌, ◌≢◌, ◌⊎◌, inl, inr, ℕ, zero, suc, ◌+◌, ◌<◌, Bool, true, false, if◌then◌else◌, List, [], ◌∷◌, ◌++◌, map, length, Option, Some, None, length-append, arith, refl, sym, ap, ◌∙◌, subst}
-use Rattle.std.specs.List.{slice_get}
+use Rattle.std.proofs.Common.{◌≡◌, ◌⊎◌, inl, inr, ℕ, ◌+◌, if◌then◌else◌, List, length, Option, Some, None, refl, sym, ap, ◌∙◌, subst}
 use Rattle.hv_tree.specs.declared.place.Place.{Place}
 use Rattle.hv_tree.specs.declared.types.Name.{Name}
 use Rattle.hv_tree.specs.declared.refusal.Rule.TheVariants as rule
-use Rattle.hv_tree.specs.Core.{Core, CoreDecl, FunOf, CoreFun, CoreStruct, CoreExpr, Path, CoreSteps, NoSteps, FieldStep, IndexStep, CoreCall, CallOf, CoreArgs}
-use Rattle.hv_rules.specs.Types.{ValueType, IntType, BoolType, StructType, ArrayType, FunType, FunToType, ParamTypes, option_meant, params_of, fun_type, field_types, field_of, field_from, fields_or_none, FieldAt, fun_in, struct_in}
-use Rattle.hv_rules.specs.Locals.{Local, CoreBody, fun_body, locals_of, number_in, local_in, value_by, value_of}
-use Rattle.hv_rules.specs.Sites.{Scope, Part, ExprPart, CallPart, PlacePart, Site, site, sites_of, bodies_of}
+use Rattle.hv_tree.specs.Core.{Core, FunOf, CoreFun, CoreStruct, Path, CoreSteps, NoSteps, FieldStep, IndexStep, CallOf, CoreArgs}
+use Rattle.hv_rules.specs.Types.{ValueType, IntType, BoolType, StructType, ArrayType, FunType, FunToType, ParamTypes, option_meant, params_of, fun_type, fun_in, struct_in}
+use Rattle.hv_rules.specs.Locals.{Local, CoreBody, fun_body, locals_of, number_in, local_in, value_of}
+use Rattle.hv_rules.specs.Sites.{Scope, ExprPart, CallPart, site, sites_of, bodies_of}
 use Rattle.hv_rules.specs.Events.{static_steps, type_behind}
-use Rattle.hv_rules.specs.Typing.{Known, Unknown, Nothing, Is, known, or_nothing, Signature, NoSignature, Signed, wanted_params, by_value, by_struct, by_fun, by_name, signature_by, fun_value, named_value, path_by, place_type}
+use Rattle.hv_rules.specs.Typing.{known, or_nothing, Signature, Signed, wanted_params, by_value, by_struct, by_fun, by_name, signature_by, fun_value, named_value, path_by, place_type}
 use Rattle.hv_rules.specs.TypeRules.{NoValue, StepMisfits, StepsT3, NoFunction}
 use Rattle.hv_value.specs.ValueTree.{ValueTree, Closure, Parts, Nil}
 use Rattle.hv_value.specs.Walk.{Link}
-use Rattle.hv_value.specs.Holes.{is_whole}
 use Rattle.hv_value.specs.Sizes.{copy_cost}
 use Rattle.hv_copying.specs.declared.end.Cause.TheVariants.{Kinds, Holes}
-use Rattle.hv_copying.specs.Run.{Run, Flow, ◌>>=◌, pure, stuck, known as is_known, pay}
+use Rattle.hv_copying.specs.Run.{Run, ◌>>=◌, pure, stuck, pay}
 use Rattle.hv_copying.specs.Ops.{Spot}
-use Rattle.hv_copying.specs.Places.{type_of, local, whole, copied, found, body_number}
+use Rattle.hv_copying.specs.Places.{type_of, whole, copied, found, body_number}
 use Rattle.hv_copying.specs.Calls.{Callee, Constructs, Enters, value_callee, struct_callee, fun_callee, top_callee, callee}
 use Rattle.hv_copying.specs.Evaluate.{function_value, top_value, named}
 use Rattle.hv_copying.specs.Copying.{Locals, copying}
 use Rattle.hv_judge.proofs.Members.{Among}
 use Rattle.hv_safe.specs.Formed.{IsBody}
-use Rattle.hv_safe.proofs.Ends.{Does, bind, next, given, before, behind, pures, gives, then_pure, then_known, then_pay}
-use Rattle.hv_safe.proofs.Inside.{AllIn, first_in, rest_in, Good, good_fun}
+use Rattle.hv_safe.proofs.Ends.{Does, bind, next, given, before, behind, gives, then_pure, then_known, then_pay}
+use Rattle.hv_safe.proofs.Inside.{Good, good_fun}
 use Rattle.hv_safe.proofs.Lists.{fun_found, struct_found}
-use Rattle.hv_safe.proofs.Fits.{Fits, FitAll, FitEach, FitLocals, f_closure, locals_none, body_type, IsFunction, Made, is_closure, no_hole}
+use Rattle.hv_safe.proofs.Fits.{Fits, FitLocals, f_closure, locals_none, body_type, IsFunction, is_closure, no_hole}
 use Rattle.hv_safe.proofs.Ways.{LinksFit}
-use Rattle.hv_safe.proofs.Asked.{ValueOf, stable}
-use Rattle.hv_safe.proofs.Accepted.{Accepted, refused, is_used, IsLocal, IsTop, Seen, Scoped, body_numbered}
+use Rattle.hv_safe.proofs.Asked.{ValueOf}
+use Rattle.hv_safe.proofs.Accepted.{Accepted, refused, IsLocal, IsTop, body_numbered}
 use Rattle.hv_safe.proofs.Matches.{Matches, IsPlace, finds_place}
 
 -- ---- in a body and a scope

@@ -1,5 +1,5 @@
 -- Each part of an accepted body runs without being stuck, and gives what its type says.
-use Rattle.std.proofs.Common.{◌≡◌, ◌≢◌, ◌⊎◌, inl, inr, ℕ, zero, suc, ◌+◌, ◌<◌, ℤ, Bool, true, false, ◌||◌, if◌then◌else◌, List, [], ◌∷◌, ◌++◌, map, length, Option, Some, None, Contains, append_assoc, append-nil, arith, refl, sym, ap, ◌∙◌, subst}
+use Rattle.std.proofs.Common.{◌≡◌, ◌≢◌, ◌⊎◌, inl, inr, ℕ, ◌+◌, ℤ, Bool, true, false, ◌||◌, if◌then◌else◌, List, [], ◌∷◌, ◌++◌, map, length, Option, Some, None, append_assoc, append-nil, arith, refl, sym, ap, ◌∙◌, subst}
 use Rattle.std.specs.List.{slice_get}
 use Rattle.hv_tree.specs.declared.place.Place.{Place}
 use Rattle.hv_tree.specs.declared.types.Name.{Name}
@@ -8,43 +8,42 @@ use Rattle.hv_tree.specs.declared.ast.Operator.{Operator}
 use Rattle.hv_tree.specs.declared.ast.Operator.TheVariants as operator
 use Rattle.hv_tree.specs.declared.refusal.Rule.TheVariants as rule
 use Rattle.hv_tree.specs.Tokens.{Level}
-use Rattle.hv_tree.specs.Core.{Core, CoreStruct, CoreParam, CoreTy, CoreExpr, Number, Truth, Path, Calls, Awaits, Array, Filled, Count, Lambda, Prefix, Chain, CoreExprs, NoExprs, ExprOf, CoreLinks, NoLinks, LinkOf, CoreSteps, NoSteps, FieldStep, IndexStep, CoreCall, CallOf, CoreArgs, NoArgs, ValueArg, RefArg, CoreBlock, BlockOf, CoreStmts, NoStmts, StmtOf, CoreBranches, NoElse, Else, BranchOf, CoreStmt, Var, VarWith, Let, Inout, Assign, If, While, Return, ReturnWith, Print, Task, AwaitsAlone, CallsAlone, Bare}
-use Rattle.hv_rules.specs.Types.{ValueType, IntType, BoolType, StructType, ArrayType, meant, option_meant, params_of, fun_type, element_of}
+use Rattle.hv_tree.specs.Core.{Core, CoreParam, CoreTy, CoreExpr, Number, Truth, Path, Calls, Awaits, Array, Filled, Count, Lambda, Prefix, Chain, CoreExprs, NoExprs, ExprOf, CoreLinks, NoLinks, LinkOf, CoreSteps, NoSteps, FieldStep, IndexStep, CoreCall, CallOf, CoreArgs, NoArgs, ValueArg, RefArg, CoreBlock, BlockOf, CoreStmts, NoStmts, StmtOf, CoreBranches, NoElse, Else, BranchOf, CoreStmt, Var, VarWith, Let, Inout, Assign, If, While, Return, ReturnWith, Print, Task, AwaitsAlone, CallsAlone, Bare}
+use Rattle.hv_rules.specs.Types.{ValueType, IntType, BoolType, StructType, meant, option_meant, params_of, fun_type}
 use Rattle.hv_rules.specs.Locals.{Captured, VarBound, LetBound, Local, CoreBody, param_local, entry_locals, locals_of, declared_in, in_branches, in_block, in_stmts, number_in, local_in, value_by, value_of}
 use Rattle.hv_rules.specs.Locals as locals
-use Rattle.hv_rules.specs.Sites.{Scope, scope_behind, capture_local, lambda_body, Part, ExprPart, CallPart, PlacePart, StmtPart, TestPart, Site, site, sites_of, bodies_of, expr_sites, exprs_sites, link_sites, step_sites, call_sites, arg_sites, block_sites, stmts_sites, branch_sites, stmt_sites}
+use Rattle.hv_rules.specs.Sites.{Scope, scope_behind, capture_local, lambda_body, ExprPart, CallPart, PlacePart, StmtPart, TestPart, site, sites_of, bodies_of, expr_sites, exprs_sites, link_sites, step_sites, call_sites, arg_sites, block_sites, stmts_sites, branch_sites, stmt_sites}
 use Rattle.hv_rules.specs.Events.{type_behind}
 use Rattle.hv_rules.specs.Typing.{Known, Unknown, Nothing, Is, known, array_of, operand_type, given_type, Signature, Signed, wanted_params, by_links, first_type, path_by, signature_of, call_type, place_type}
 use Rattle.hv_rules.specs.Typing as typing
-use Rattle.hv_rules.specs.TypeRules.{expr_place, NoValue, Misfits, StepMisfits, StepsT3, NoArray, ChainMisfits, OperandMisfits, CallMisfits, ReturnMisfits}
+use Rattle.hv_rules.specs.TypeRules.{expr_place, Misfits, StepMisfits, StepsT3, NoArray, ChainMisfits, OperandMisfits, ReturnMisfits}
 use Rattle.hv_value.specs.ValueTree.{ValueTree, Fields, Elements, Closure, Parts, Nil, Cons, row}
 use Rattle.hv_value.specs.ValueTree as v
 use Rattle.hv_value.specs.Texts.{text}
-use Rattle.hv_value.specs.Walk.{Link}
 use Rattle.hv_copying.specs.declared.end.Cause.TheVariants.{Kinds}
-use Rattle.hv_copying.specs.Run.{Run, Flow, ◌>>=◌, pure, pay, say, unless_left}
+use Rattle.hv_copying.specs.Run.{Run, Flow, ◌>>=◌, pure}
 use Rattle.hv_copying.specs.Ops.{Spot, Reads, Value, Lent}
 use Rattle.hv_copying.specs.Ops as ops
 use Rattle.hv_copying.specs.Operations.{unary, binary, decides, applied, number, filled_with}
-use Rattle.hv_copying.specs.Places.{type_of, body_number, found, captured}
-use Rattle.hv_copying.specs.Calls.{Deeper, Placed, passed_captures, callee, entered, pass_value}
-use Rattle.hv_copying.specs.Blocks.{first_token, repeated}
+use Rattle.hv_copying.specs.Places.{type_of, body_number, found}
+use Rattle.hv_copying.specs.Calls.{Deeper, passed_captures, callee, entered, pass_value}
+use Rattle.hv_copying.specs.Blocks.{first_token}
 use Rattle.hv_copying.specs.Evaluate.{if_local, value, values, chained, indices, place_in, call, parts, args, block, statements, statement, choices}
 use Rattle.hv_copying.specs.Copying.{Locals, copying}
-use Rattle.hv_judge.proofs.Members.{Among, in_left, contained}
-use Rattle.hv_safe.specs.Formed.{level_of, AreOfLevel}
-use Rattle.hv_safe.specs.Runs.{gives_back, ends_in_return}
-use Rattle.hv_safe.proofs.Ends.{Does, IsTruth, bind, next, behind, gives, then_known, then_pay, if_does, says, writes, unless, chooses, repeats}
+use Rattle.hv_judge.proofs.Members.{Among, contained}
+use Rattle.hv_safe.specs.Formed.{AreOfLevel}
+use Rattle.hv_safe.specs.Runs.{gives_back}
+use Rattle.hv_safe.proofs.Ends.{Does, IsTruth, bind, next, behind, gives, then_known, then_pay, says, writes, unless, chooses, repeats}
 use Rattle.hv_safe.proofs.Inside.{AllIn, first_in, rest_in, left_in, right_in, Good, lambda_listed}
-use Rattle.hv_safe.proofs.Lists.{at_among, Distinct, mapped}
-use Rattle.hv_safe.proofs.Fits.{Fits, FitLocals, f_number, f_truth, f_closure, is_truth}
+use Rattle.hv_safe.proofs.Lists.{mapped}
+use Rattle.hv_safe.proofs.Fits.{Fits, f_number, f_truth, f_closure, is_truth}
 use Rattle.hv_safe.proofs.Ways.{l_end}
 use Rattle.hv_safe.proofs.Asked.{ValueOf, asked, applies, between, decided, negated, inverted, then_number, fills_with, Takes}
-use Rattle.hv_safe.proofs.Accepted.{Accepted, refused, is_used, is_captured, IsLocal, IsTop, Seen, Scoped, resolved, resolved_capture, all_distinct, body_numbered}
-use Rattle.hv_safe.proofs.Matches.{Matches, one_number, forgets, IsPlace, PassedFit, value_passed, lent_passed, none_passed, passed_more, passed_still, captures_passed}
+use Rattle.hv_safe.proofs.Accepted.{Accepted, refused, is_used, is_captured, IsLocal, IsTop, Scoped, resolved, resolved_capture, all_distinct, body_numbered}
+use Rattle.hv_safe.proofs.Matches.{one_number, forgets, PassedFit, value_passed, lent_passed, none_passed, passed_more, passed_still, captures_passed}
 use Rattle.hv_safe.proofs.Named.{used, State, CalleeFits, StepsFine, Behind, PlaceOf, finds, named_local, named_top, callee_local, callee_top, no_local_value, root_here, root_type}
 use Rattle.hv_safe.proofs.Pieces.{runs_here, formed_here, ValuesOf, elements_fit, Ready, takes, ready_next, links_give, AllAreRead, ArgsFine, args_fine, NoRefs, ArgsOf, parts_fit, fields_read, params_read, Sits, sits_first, sits_after, first_at, wider, one_more}
-use Rattle.hv_safe.proofs.Constructs.{field_links, index_links, counts, captures, capture_typed, Returned, DeeperOk, enters_body, calls_by, ArgPlace, PlacedFit, passes, begins, binds_local}
+use Rattle.hv_safe.proofs.Constructs.{field_links, index_links, counts, captures, capture_typed, Returned, DeeperOk, enters_body, calls_by, PlacedFit, passes, begins, binds_local}
 
 -- ---- how a block is left
 
@@ -316,12 +315,12 @@ module _ {tree : Core} (ok : Accepted tree) (body : CoreBody) (good : Good tree 
         next (callee_ok root steps at given edge s refs here (first_in (rest_in i)) (λ t fine. indices_ok steps edge s sc refs (left_in (step_sites steps s) (arg_sites given s) more) t fine) (resolve root steps edge s sc (first_in (rest_in i)))) (λ who c.
         calls_by ok body s refs (signature_of tree s.visible root steps) who (parts copying tree (locals_of body) deeper given) _ c
         (λ c q.
-            let fine = call_fine root steps at given s here (map typing.wanted_field c.fields) (Is (StructType c.name.text)) q (fields_read c.fields) in
-            behind (parts_ok given edge s sc refs of_args fine.plain) (λ ws e h. (parts_fit tree s c.fields given ws fine.t1 fine.counts h.0, h.1)))
+        let fine = call_fine root steps at given s here (map typing.wanted_field c.fields) (Is (StructType c.name.text)) q (fields_read c.fields) in
+        behind (parts_ok given edge s sc refs of_args fine.plain) (λ ws e h. (parts_fit tree s c.fields given ws fine.t1 fine.counts h.0, h.1)))
         (λ f vs b isb g l q.
-            let fine = call_fine root steps at given s here (wanted_params (params_of b.params)) (typing.or_nothing (option_meant b.result)) q (params_read b.params (params_let b g)) in
-            args_ok given edge s sc of_args b.params (params_let b g) refs fine b.captures (passed_captures vs) (captures_passed (length (locals_of body)) refs l) (entered copying deeper at f b) b.result
-            (λ more qs p. enters_body ok body s deeper runs at f b isb g more qs p)))
+        let fine = call_fine root steps at given s here (wanted_params (params_of b.params)) (typing.or_nothing (option_meant b.result)) q (params_read b.params (params_let b g)) in
+        args_ok given edge s sc of_args b.params (params_let b g) refs fine b.captures (passed_captures vs) (captures_passed (length (locals_of body)) refs l) (entered copying deeper at f b) b.result
+        (λ more qs p. enters_body ok body s deeper runs at f b isb g more qs p)))
 
     parts_ok : (given : CoreArgs) (edge : ℕ) (s : Scope) (sc : Scoped body edge s) (refs : List ValueType) → AllIn tree (arg_sites given s) → NoRefs given →
         Does (used body refs) (State tree body s refs) (λ ws e. ArgsOf tree s given ws × State tree body s refs e) (parts copying tree (locals_of body) deeper given)

@@ -1,44 +1,29 @@
 -- What rules say of the pieces of a construct, and what its runs come to where those of its parts are known.
-use Rattle.std.proofs.Common.{◌≡◌, ◌≢◌, ◌⊎◌, inl, inr, ℕ, zero, suc, ◌+◌, ◌<◌, Bool, true, false, ◌||◌, if◌then◌else◌, List, [], ◌∷◌, ◌++◌, map, length, Option, Some, None, Contains, length-append, append_assoc, append-nil, arith, refl, sym, ap, ◌∙◌, subst}
+use Rattle.std.proofs.Common.{◌≡◌, ◌≢◌, ◌⊎◌, inl, inr, ℕ, zero, suc, ◌+◌, List, [], ◌∷◌, ◌++◌, map, length, Option, Some, None, arith, refl, sym, ap, ◌∙◌, subst}
 use Rattle.std.specs.List.{slice_get}
 use Rattle.std.proofs.lemmas.Option.{slice_get_within}
 use Rattle.hv_tree.specs.declared.place.Place.{Place}
-use Rattle.hv_tree.specs.declared.types.Name.{Name}
 use Rattle.hv_tree.specs.declared.types.Conv.{Conv}
 use Rattle.hv_tree.specs.declared.types.Conv.TheVariants as conv
 use Rattle.hv_tree.specs.declared.ast.Operator.{Operator}
-use Rattle.hv_tree.specs.declared.refusal.Rule.TheVariants as rule
-use Rattle.hv_tree.specs.Tokens.{Level, Comparisons}
-use Rattle.hv_tree.specs.Core.{Core, CoreField, CoreStruct, CoreParam, CoreTy, CoreExpr, CoreExprs, NoExprs, ExprOf, CoreLinks, NoLinks, LinkOf, CoreSteps, FieldStep, IndexStep, CoreCall, CallOf, CoreArgs, NoArgs, ValueArg, RefArg, CoreBlock, BlockOf, CoreStmts, NoStmts, StmtOf, CoreStmt, Var, VarWith, Let, Inout, Assign, If, While, Return, ReturnWith, Print, Task, AwaitsAlone, CallsAlone, Bare}
-use Rattle.hv_rules.specs.Types.{ValueType, IntType, BoolType, StructType, ArrayType, FunType, FunToType, meant, option_meant, params_of, field_types, type_of_field, fields_or_none, field_of, FieldAt, element_of, struct_in}
-use Rattle.hv_rules.specs.Locals.{LocalKind, Captured, Local, CoreBody, param_local, entry_locals, locals_of, in_block, declared_in, number_in, local_in, value_by, value_of}
-use Rattle.hv_rules.specs.Locals as locals
-use Rattle.hv_rules.specs.Sites.{Scope, scope_behind, capture_local, body_scope, Part, PlacePart, StmtPart, Site, site, sites_of, bodies_of}
-use Rattle.hv_rules.specs.Events.{type_behind, type_at, field_at}
+use Rattle.hv_tree.specs.Tokens.{Level}
+use Rattle.hv_tree.specs.Core.{Core, CoreField, CoreParam, CoreExprs, NoExprs, ExprOf, CoreLinks, NoLinks, LinkOf, CoreArgs, NoArgs, ValueArg, RefArg}
+use Rattle.hv_rules.specs.Types.{ValueType, IntType, BoolType, StructType, ArrayType, FunType, FunToType, meant, params_of, field_types, type_of_field, fields_or_none, field_of, FieldAt, element_of, struct_in}
+use Rattle.hv_rules.specs.Locals.{Local, CoreBody, param_local, entry_locals, locals_of, in_block, value_by}
+use Rattle.hv_rules.specs.Sites.{Scope, body_scope, Site, sites_of}
 use Rattle.hv_rules.specs.Typing.{Known, Unknown, Nothing, Is, array_of, or_nothing, operand_type, given_type, Wanted, Signature, Signed, wanted_params, wanted_field, by_struct, gives as signature_gives, signature_of, by_links, first_type}
 use Rattle.hv_rules.specs.Typing as typing
-use Rattle.hv_rules.specs.TypeRules.{expr_place, Misfits, ElementMisfits, ArgMisfits, CallMisfits, count_of, CountDiffers, HasMark, MarkDiffers, CallT5, ReturnMisfits}
-use Rattle.hv_value.specs.ValueTree.{ValueTree, Number, Elements, Fields, Parts, Nil, Cons, row}
-use Rattle.hv_value.specs.Operators.{length_of, count}
-use Rattle.hv_copying.specs.declared.end.Cause.TheVariants.{Kinds, Holes}
-use Rattle.hv_copying.specs.Run.{Run, Flow, ◌>>=◌, pure}
-use Rattle.hv_copying.specs.Ops.{Spot, Reads, Lent}
-use Rattle.hv_copying.specs.Ops as ops
-use Rattle.hv_copying.specs.Places.{local, all_of, declared, all_found, captured, copied}
-use Rattle.hv_copying.specs.Calls.{Deeper, Callee, Constructs, Enters, result_of, call_by, lent, entered, ended}
-use Rattle.hv_copying.specs.Copying.{Locals, tree_at, written, without, returned, copying}
-use Rattle.hv_judge.proofs.Members.{Among, in_left, in_right, either_in, contained}
-use Rattle.hv_safe.specs.Formed.{IsBody, level_of, MayGoOn, AreOfLevel, HasElement, PartIsFormed}
-use Rattle.hv_safe.specs.Runs.{PartRuns, gives_back}
-use Rattle.hv_safe.proofs.Ends.{Does, bind, next, given, before, behind, pures, gives, then_pure, then_known, then_pay, traps, refers, writes, reads_under, calls}
+use Rattle.hv_rules.specs.TypeRules.{expr_place, Misfits, ElementMisfits, ArgMisfits, CallMisfits, count_of, CountDiffers, HasMark, MarkDiffers, CallT5}
+use Rattle.hv_value.specs.ValueTree.{ValueTree, Elements, row}
+use Rattle.hv_judge.proofs.Members.{Among, either_in, contained}
+use Rattle.hv_safe.specs.Formed.{level_of, MayGoOn, AreOfLevel, HasElement, PartIsFormed}
+use Rattle.hv_safe.specs.Runs.{PartRuns}
 use Rattle.hv_safe.proofs.Inside.{Good}
 use Rattle.hv_safe.proofs.Lists.{get_left, get_right, among_at, Distinct, numbered, field_found}
-use Rattle.hv_safe.proofs.Fits.{Fits, FitAll, all_none, all_more, FitEach, each_none, each_more, FitLocals, locals_none, locals_more, f_elements, f_fields, f_number, is_elements}
-use Rattle.hv_safe.proofs.Ways.{LinksFit, l_end, l_field, l_index}
-use Rattle.hv_safe.proofs.Asked.{ValueOf, stable, asked, Takes, level_gives, given_by_level, taken_by_level}
-use Rattle.hv_safe.proofs.Accepted.{Accepted, refused, IsLocal, Seen, Scoped, all_distinct}
-use Rattle.hv_safe.proofs.Matches.{Matches, one_number, value_typed, declares, clears, forgets, lends, gives_back as gives_up, IsPlace, finds_place, PassedFit, enters as enters_with, comes_back}
-use Rattle.hv_safe.proofs.Named.{used, State, StepsFine, Behind, Copied, PlaceOf, copies, CalleeFits, constructs, enters}
+use Rattle.hv_safe.proofs.Fits.{Fits, FitAll, all_none, all_more, FitEach, each_none, each_more, f_elements}
+use Rattle.hv_safe.proofs.Asked.{ValueOf, asked, Takes, given_by_level, taken_by_level}
+use Rattle.hv_safe.proofs.Accepted.{Accepted, Seen, Scoped}
+use Rattle.hv_safe.proofs.Matches.{value_typed}
 
 pub runs_here : {tree : Core} → Accepted tree → (w : Site) → Among (sites_of tree) w → PartRuns w.part
 runs_here {tree = tree} ok w i = ok.runs.parts w (contained (sites_of tree) w i)

@@ -1,5 +1,5 @@
 -- The tokens of `fun main() { }`, which stand at places of their own and spell it.
-use Rattle.std.proofs.Common.{ℕ, List, [], ◌∷◌, None, codes, lit<, refl}
+use Rattle.std.proofs.Common.{ℕ, [], ◌∷◌, None, codes, lit<, refl}
 use Rattle.hv_tree.specs.declared.place.Place.{Place}
 use Rattle.hv_tree.specs.declared.types.Name.{Name}
 use Rattle.hv_tree.specs.declared.ast.Tree.{Tree}

@@ -1,18 +1,15 @@
 -- Accepted programs are never stuck: bodies, activations one in another, and the root.
-use Rattle.std.proofs.Common.{◌≡◌, ℕ, zero, suc, ◌+◌, Bool, true, false, ◌||◌, List, [], ◌∷◌, map, length, Option, Some, None, option_and_then, is_some, Contains, codes, arith, refl, sym, ap, ◌∙◌, subst}
-use Rattle.std.specs.List.{slice_get}
-use Rattle.hv_tree.specs.Core.{Core, FunOf, CoreFun, CoreParam, CoreTy, CoreBlock, BlockOf, CoreStmts, NoStmts, StmtOf}
-use Rattle.hv_rules.specs.Types.{ValueType, fun_in}
-use Rattle.hv_rules.specs.Locals.{Local, CoreBody, fun_body, param_local, entry_locals, locals_of, value_by}
+use Rattle.std.proofs.Common.{◌≡◌, ℕ, zero, suc, Bool, true, false, ◌||◌, [], ◌∷◌, map, length, Option, Some, None, option_and_then, is_some, codes, arith, refl, sym, ap, ◌∙◌, subst}
+use Rattle.hv_tree.specs.Core.{Core, CoreFun, CoreTy, CoreBlock, BlockOf, CoreStmts, NoStmts, StmtOf}
+use Rattle.hv_rules.specs.Locals.{CoreBody, fun_body, param_local, entry_locals, locals_of}
 use Rattle.hv_rules.specs.Sites.{body_scope, bodies_of}
 use Rattle.hv_rules.specs.Accepted.{NamePhase, TypePhase, IsFirstOf}
-use Rattle.hv_value.specs.ValueTree.{ValueTree}
-use Rattle.hv_copying.specs.Run.{Res, Now, Run, Flow, ◌>>=◌}
+use Rattle.hv_copying.specs.Run.{Res, Now, Flow, ◌>>=◌}
 use Rattle.hv_copying.specs.Calls.{Deeper, ended}
 use Rattle.hv_copying.specs.Places.{body_number}
 use Rattle.hv_copying.specs.Evaluate.{block, body_run, body_by, bodies_run, activations}
 use Rattle.hv_copying.specs.Copying.{Locals, copying}
-use Rattle.hv_copying.specs.Meaning.{run_of, node_by, node_of, root_by, start, below_root, main_in, IsSafe}
+use Rattle.hv_copying.specs.Meaning.{node_by, node_of, root_by, start, below_root, main_in, IsSafe}
 use Rattle.hv_judge.proofs.Members.{Among, contained}
 use Rattle.hv_safe.specs.Formed.{IsFormed, IsBody}
 use Rattle.hv_safe.specs.Runs.{gives_back, ends_in_return, block_ends_in_return, Returns, Runs}

@@ -7,8 +7,8 @@ use Rattle.hv_rules.specs.Types.{ValueType, StructType, ArrayType, field_types}
 use Rattle.hv_value.specs.declared.value.PathStep.{PathStep}
 use Rattle.hv_value.specs.declared.value.PathStep.TheVariants.{Field, At}
 use Rattle.hv_value.specs.ValueTree.{ValueTree, Fields, Elements, Parts}
-use Rattle.hv_value.specs.Places.{Path, nth, change_nth, get, put}
-use Rattle.hv_value.specs.Walk.{Link, ToField, ToIndex, Reached, Reaches, Outside, Lost, after_step, onward, step_on, walk}
+use Rattle.hv_value.specs.Places.{Path, nth, get, put}
+use Rattle.hv_value.specs.Walk.{Link, ToField, ToIndex, Reached, Reaches, Outside, Lost, after_step, onward, walk}
 use Rattle.hv_safe.proofs.Fits.{Fits, FitAll, FitEach, f_fields, f_elements, is_fields, is_elements, nth_all, change_all, nth_each, change_each}
 
 -- the way leads from values of the first type to those of the second
