@@ -28,13 +28,6 @@ then_ends e_spent k = e_spent
 pub record Does {X : Type 0} (n : ℕ) (P : Locals → Type 0) (Q : X → Locals → Type 0) (p : Run (Unit {0}) Locals X) : Type 0 where
   pub does : (s : Now Locals) → P s.own → Ends Q (p n tt s)
 
--- what is given is in A, and M is kept
-abbrev pub Keeps : {X : Type 0} → ℕ → (Locals → Type 0) → (X → Type 0) → Run (Unit {0}) Locals X → Type 0
-Keeps n M A p = Does n M (λ x e. A x × M e) p
-
-abbrev pub Any : {X : Type 0} → X → Type 0
-Any x = Unit {0}
-
 -- ---- one after another
 
 pub bind : {X Y : Type 0} {n : ℕ} {P : Locals → Type 0} {Q : X → Locals → Type 0} {R : Y → Locals → Type 0} {p : Run (Unit {0}) Locals X} {f : X → Run (Unit {0}) Locals Y} → Does n P Q p → ((x : X) → Does n (Q x) R (f x)) → Does n P R (p >>= f)
@@ -75,9 +68,6 @@ then_pure x f h = record { does = λ s e. h.does s e }
 
 pub then_known : {X Y : Type 0} {n : ℕ} {P : Locals → Type 0} {R : Y → Locals → Type 0} (cause : Cause) (o : Option X) (x : X) (f : X → Run (Unit {0}) Locals Y) → o ≡ Some x → Does n P R (f x) → Does n P R (known cause o >>= f)
 then_known {n = n} {P = P} {R = R} cause o x f e h = subst (λ o. Does n P R (known cause o >>= f)) (sym e) (then_pure x f h)
-
-pub gives_known : {X : Type 0} {n : ℕ} {M : Locals → Type 0} {A : X → Type 0} (cause : Cause) (o : Option X) (x : X) → o ≡ Some x → A x → Does n M (λ y e. A y × M e) (known cause o)
-gives_known {n = n} {M = M} {A = A} cause o x e a = subst (λ o. Does n M (λ y e. A y × M e) (known cause o)) (sym e) (gives x a)
 
 pub traps : {X : Type 0} {n : ℕ} {P : Locals → Type 0} {Q : X → Locals → Type 0} (kind : TrapKind) (at : Place) → Does n P Q (trap kind at)
 unfolding trap

@@ -78,12 +78,12 @@ alone f = record { decls = FunOf f ∷ [] }
 -- ---- what the premises are for: without them a program may come to where there is no rule
 
 -- `fun f(x: Int) { print(x) } fun main() { }`, where both `}` stand at one place: f is taken for `main`
-same_end : node_of (two (fun (codes "f") (x_param conv.Let ∷ []) None (Print o read ∷ []) 40) (main [])) 10 ≡ None
-unfolding node_of and_then mine become pure halt pay counted_from
-same_end = refl
-
 abbrev bodies_at_one_place : Core
 bodies_at_one_place = two (fun (codes "f") (x_param conv.Let ∷ []) None (Print o read ∷ []) 40) (main [])
+
+same_end : node_of bodies_at_one_place 10 ≡ None
+unfolding node_of and_then mine become pure halt pay counted_from
+same_end = refl
 
 not_apart : IsFormed bodies_at_one_place → ⊥
 not_apart f =

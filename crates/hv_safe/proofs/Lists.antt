@@ -57,10 +57,6 @@ mapped f [] b h = absurd h
 mapped f (x ∷ xs) b (inl e) = (x, inl refl, e)
 mapped f (x ∷ xs) b (inr h) = let r = mapped f xs b h in (r.0, inr r.1, r.2)
 
-pub map_split : {A B : Type 0} (f : A → B) (front : List A) (a : A) (back : List A) → map f (front ++ a ∷ back) ≡ map f front ++ f a ∷ map f back
-map_split f [] a back = refl
-map_split f (x ∷ front) a back = ap (λ ys. f x ∷ ys) (map_split f front a back)
-
 -- ---- texts
 
 pub text_is : (s t : List ℕ) → bytes_eq s t ≡ true → s ≡ t

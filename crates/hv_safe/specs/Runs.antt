@@ -1,4 +1,4 @@
--- The programs of which the law speaks: each local has a value from its declaration on, no place is changed through another or moved, and there are no tasks.
+-- The programs of which the law speaks: each local has a value from its declaration on, no place is changed through another or moved, and there are no tasks. Without parameters that are changed no argument may have `&`.
 use Rattle.std.specs.Prelude.{◌≡◌, Bool, true, false, Option, Some, None, Contains}
 use Rattle.hv_tree.specs.declared.types.Conv.TheVariants as conv
 use Rattle.hv_tree.specs.Core.{Core, CoreDecl, CoreParam, CoreTy, IntTy, BoolTy, NamedTy, ArrayTy, FunTy, FunToTy, CoreTys, NoTys, TyOf, CoreExpr, Awaits, CoreBlock, BlockOf, CoreStmts, NoStmts, StmtOf, CoreStmt, Var, Inout, ReturnWith, Task, AwaitsAlone}
