@@ -1,0 +1,3 @@
+-- what the law asks of a program besides the rules
+pub mod Formed
+pub mod Runs
