@@ -1,0 +1,12 @@
+//! The first refusal of a plan of acts, in one pass over its words.
+#![tactic(auto)]
+
+mod act;
+mod cell;
+mod known;
+mod pass;
+mod plan;
+
+pub use act::{Act, Range};
+pub use pass::first_refusal;
+pub use plan::PassOp;
