@@ -1,5 +1,5 @@
 -- The pass over a flow knows what its cells may be, and the first of all that is refused on the way.
-use Rattle.std.proofs.Common.{◌≡◌, ◌⊎◌, inl, inr, ℕ, zero, suc, ◌<◌, ◌≤◌, Bool, true, false, List, [], ◌∷◌, ◌++◌, map, length, Option, Some, None, refl, sym, ◌∙◌, ap, subst, arith}
+use Rattle.std.proofs.Common.{◌≡◌, ◌⊎◌, inl, inr, ℕ, zero, suc, ◌<◌, ◌≤◌, Bool, true, false, List, [], ◌∷◌, ◌++◌, map, length, replicate, Option, Some, None, refl, sym, ◌∙◌, ap, subst, arith}
 use Rattle.std.proofs.lemmas.List.{append-nil}
 use Rattle.hv_tree.specs.declared.refusal.Refusal.{Refusal}
 use Rattle.hv_rules.specs.Flow.{Flow, Skip, Do, Stop, Then, Either, Loop, Turns, none, more, Ends}
@@ -11,11 +11,12 @@ use Rattle.hv_pass.specs.declared.known.Known.{Known}
 use Rattle.hv_pass.specs.Lists.{merge}
 use Rattle.hv_pass.specs.Cells.{begun_cell, turned_cell, joined, begun, turned, nothing_due, kept_due, both_due, all_due, none_due}
 use Rattle.hv_pass.specs.Passes.{pass_acts, with_cells, stopped, entered, left, joined_with, passed}
+use Rattle.hv_pass.proofs.ListLemmas.{length_merge}
 use Rattle.hv_pass.proofs.Traces.{Hits}
 use Rattle.hv_pass.proofs.Seen.{event_after, run, run-append, Moves, stays, sets, run_moves, filled, run_filled, Cause, Always, When, Raised, raised_of, raised_always, raised_when, never_raised, raised_self}
 use Rattle.hv_pass.proofs.Firsts.{same_first}
 use Rattle.hv_pass.proofs.Exactness.{May, Reached, never, event_stepped, event_steps, joined_left, joined_right, joins, begins, begun_of, turned_left, turned_right, turned_of, may_length}
-use Rattle.hv_pass.proofs.Dues.{known_of, Fits, HereIn, acts_fit, acts_first, Comes_due, gather_first, all_first, none_asked, asked_at}
+use Rattle.hv_pass.proofs.Owed.{known_of, Fits, HereIn, acts_fit, acts_first, Comes_due, gather_first, all_first, none_asked, asked_at}
 
 either_way : {X Y Z : Type 0} → X ⊎ Y → (X → Z) → (Y → Z) → Z
 either_way (inl p) f g = f p
@@ -35,17 +36,16 @@ joined_length n (c ∷ cs) [] h g = h
 joined_length zero (c ∷ cs) (d ∷ ds) h g = absurd (omega (arith, h))
 joined_length (suc n) (c ∷ cs) (d ∷ ds) h g = omega (arith, joined_length n cs ds (omega (arith, h)) (omega (arith, g)))
 
-pub length_merge : {A B : Type 0} (f : A → B → A) (xs : List A) (ys : List B) → length (merge f xs ys) ≡ length xs
-length_merge f [] ys = refl
-length_merge f (x ∷ xs) [] = refl
-length_merge f (x ∷ xs) (y ∷ ys) = ap suc (length_merge f xs ys)
-
-pub length_mapped : {A B : Type 0} (f : A → B) (xs : List A) → length (map f xs) ≡ length xs
+length_mapped : {A B : Type 0} (f : A → B) (xs : List A) → length (map f xs) ≡ length xs
 length_mapped f [] = refl
 length_mapped f (x ∷ xs) = ap suc (length_mapped f xs)
 
+pub length_alike : {A : Type 0} (n : ℕ) (x : A) → length (replicate n x) ≡ n
+length_alike zero x = refl
+length_alike (suc n) x = ap suc (length_alike n x)
+
 entered_fits : (k : Known) → Fits (length k.cells) (entered k)
-entered_fits k = record { cells = omega (arith, length_mapped begun_cell k.cells); dues = length_mapped (λ (c : Cell). nothing_due) k.cells }
+entered_fits k = record { cells = omega (arith, length_mapped begun_cell k.cells); dues = length_alike (length k.cells) nothing_due }
 
 left_fits : (n : ℕ) (k t : Known) → Fits n k → Fits n (left k t)
 left_fits n k t f = record {

@@ -14,13 +14,14 @@ use Rattle.hv_pass.specs.declared.plan.PassOp.TheVariants as op
 use Rattle.hv_pass.specs.declared.known.Known.{Known}
 use Rattle.hv_pass.specs.Plans.{plan_of}
 use Rattle.hv_pass.specs.Refused.{Values, start, covers, after_act, after_acts, acts_in, Refuses, IsRefused}
+use Rattle.hv_pass.specs.Cells.{nothing_due}
 use Rattle.hv_pass.specs.Passes.{passed, read_all, act_end, acts_end, op_end, plan_end, starting}
 use Rattle.hv_pass.proofs.Traces.{Hits, hit_traced, trace_hit}
 use Rattle.hv_pass.proofs.Seen.{inside, seen_after, event_after, run, Always, RaisedBy, Raised}
 use Rattle.hv_pass.proofs.Firsts.{same_first}
 use Rattle.hv_pass.proofs.Exactness.{May, never}
-use Rattle.hv_pass.proofs.Dues.{Fits}
-use Rattle.hv_pass.proofs.Collects.{Raises, collects, length_mapped}
+use Rattle.hv_pass.proofs.Owed.{Fits}
+use Rattle.hv_pass.proofs.Collects.{Raises, collects, length_alike}
 use Rattle.hv_pass.proofs.Reading.{read_plan}
 
 -- ---- ranges
@@ -160,12 +161,8 @@ start_to zero i h = absurd (omega (arith, h))
 start_to (suc n) zero h = refl
 start_to (suc n) (suc i) h = start_to n i (omega (arith, h))
 
-length_start : (n : ℕ) → length (replicate n a_no) ≡ n
-length_start zero = refl
-length_start (suc n) = ap suc (length_start n)
-
 starting_fits : (n : ℕ) → Fits n (starting n)
-starting_fits n = record { cells = omega (arith, length_start n); dues = length_mapped _ (replicate n a_no) ∙ length_start n }
+starting_fits n = record { cells = omega (arith, length_alike n a_no); dues = length_alike (length (replicate n a_no)) nothing_due ∙ length_alike n a_no }
 
 -- ---- both together
 

@@ -1,5 +1,5 @@
 -- Cells, and the refusals that are due, as the pass computes them.
-use Rattle.std.specs.Prelude.{ℕ, ◌+◌, zero, suc, nat_lt, nat_eq, Bool, true, false, not, ◌&&◌, ◌||◌, if◌then◌else◌, List, [], ◌∷◌, map, Option, Some, None}
+use Rattle.std.specs.Prelude.{ℕ, ◌+◌, zero, suc, nat_lt, nat_eq, Bool, true, false, not, ◌&&◌, ◌||◌, if◌then◌else◌, List, [], ◌∷◌, length, map, replicate, Option, Some, None}
 use Rattle.hv_tree.specs.declared.refusal.Refusal.{Refusal}
 use Rattle.hv_rules.specs.Earlier.{number_of}
 use Rattle.hv_pass.specs.declared.cell.Cell.{Cell}
@@ -110,4 +110,4 @@ abbrev pub all_due : List Due → List Cell → List Due → List Due
 all_due ds cs turn = merge both_due ds (merge kept_due turn cs)
 
 abbrev pub none_due : List Cell → List Due
-none_due cs = map (λ (c : Cell). nothing_due) cs
+none_due cs = replicate (length cs) nothing_due

@@ -3,9 +3,16 @@
 
 mod act;
 mod cell;
+mod cells;
+mod count;
+mod dues;
+mod first;
 mod known;
 mod pass;
 mod plan;
+#[cfg(test)]
+mod tests;
+mod waiting;
 
 pub use act::{Act, Range};
 pub use pass::first_refusal;

@@ -10,6 +10,7 @@ use Rattle.hv_pass.specs.declared.known.Known.{Known}
 use Rattle.hv_pass.specs.Lists.{over, merge}
 use Rattle.hv_pass.specs.Cells.{may_in, cell_may, earlier, when, nothing_due, due_more, due_if, due_in, kept_at, due_at, gathered, kept_due, both_due, all_due, none_due}
 use Rattle.hv_pass.specs.Passes.{pass_act, pass_acts}
+use Rattle.hv_pass.proofs.ListLemmas.{length_over}
 use Rattle.hv_pass.proofs.Seen.{inside, seen_after, Cause, Always, When, Meets, RaisedBy, Raised}
 use Rattle.hv_pass.proofs.Firsts.{same_first, earlier_first, when_first, one_first, none_first}
 use Rattle.hv_pass.proofs.Exactness.{pick, seen_at, May, act_stepped, act_steps, may_length, may_found, may_here, never}
@@ -157,12 +158,6 @@ act_first n (act.Refuse range value t) k (When j v) T f h =
         let s = seen_none p.0 p.1 value j v p.3.1 in
         let m = subst (λ (u : Option Bool). May k.cells p.0 u) s.0 p.2 in
         inr (subst (λ (w : ℕ). inside range.from range.count w ≡ true) (sym s.1) p.3.0, (kept_same k.cells j ∙ subst (λ (w : ℕ). May k.cells w None) (sym s.1) m, s.2, p.3.2))
-
-length_over : {A : Type 0} (ch : ℕ → A → A) (from count : ℕ) (xs : List A) → length (over ch from count xs) ≡ length xs
-length_over ch from count [] = refl
-length_over ch (suc from) count (x ∷ xs) = ap suc (length_over (λ k. ch (suc k)) from count xs)
-length_over ch zero zero (x ∷ xs) = refl
-length_over ch zero (suc count) (x ∷ xs) = ap suc (length_over (λ k. ch (suc k)) zero count xs)
 
 act_fits : (n : ℕ) (a : Act) (k : Known) → Fits n k → Fits n (pass_act a k)
 act_fits n (act.Set range value) k f = record { cells = subst (λ (m : ℕ). m ≤ n) (sym (length_over _ range.from range.count k.cells)) f.cells; dues = f.dues }
