@@ -1,5 +1,5 @@
 -- The pass over a flow knows what its cells may be, and the first of all that is refused on the way.
-use Rattle.std.proofs.Common.{◌≡◌, ◌⊎◌, inl, inr, ℕ, zero, suc, ◌<◌, ◌≤◌, Bool, true, false, List, [], ◌∷◌, ◌++◌, map, length, replicate, Option, Some, None, refl, sym, ◌∙◌, ap, subst, arith}
+use Rattle.std.proofs.Common.{◌≡◌, ◌⊎◌, inl, inr, ℕ, zero, suc, ◌≤◌, Bool, List, [], ◌∷◌, ◌++◌, map, length, replicate, Option, Some, None, refl, sym, ◌∙◌, ap, subst, arith}
 use Rattle.std.proofs.lemmas.List.{append-nil}
 use Rattle.hv_tree.specs.declared.refusal.Refusal.{Refusal}
 use Rattle.hv_rules.specs.Flow.{Flow, Skip, Do, Stop, Then, Either, Loop, Turns, none, more, Ends}
@@ -9,11 +9,11 @@ use Rattle.hv_pass.specs.declared.cell.Due.{Due}
 use Rattle.hv_pass.specs.declared.act.Act.{Act}
 use Rattle.hv_pass.specs.declared.known.Known.{Known}
 use Rattle.hv_pass.specs.Lists.{merge}
-use Rattle.hv_pass.specs.Cells.{begun_cell, turned_cell, joined, begun, turned, nothing_due, kept_due, both_due, all_due, none_due}
-use Rattle.hv_pass.specs.Passes.{pass_acts, with_cells, stopped, entered, left, joined_with, passed}
+use Rattle.hv_pass.specs.Cells.{begun_cell, turned_cell, joined, begun, turned, nothing_due, kept_due, both_due, none_due}
+use Rattle.hv_pass.specs.Passes.{pass_acts, with_cells, stopped, entered, left, passed}
 use Rattle.hv_pass.proofs.ListLemmas.{length_merge}
 use Rattle.hv_pass.proofs.Traces.{Hits}
-use Rattle.hv_pass.proofs.Seen.{event_after, run, run-append, Moves, stays, sets, run_moves, filled, run_filled, Cause, Always, When, Raised, raised_of, raised_always, raised_when, never_raised, raised_self}
+use Rattle.hv_pass.proofs.Seen.{run, run-append, Moves, stays, sets, run_moves, run_filled, Cause, Always, When, Raised, raised_of, raised_always, raised_when, never_raised, raised_self}
 use Rattle.hv_pass.proofs.Firsts.{same_first}
 use Rattle.hv_pass.proofs.Exactness.{May, Reached, never, event_stepped, event_steps, joined_left, joined_right, joins, begins, begun_of, turned_left, turned_right, turned_of, may_length}
 use Rattle.hv_pass.proofs.Owed.{known_of, Fits, HereIn, acts_fit, acts_first, Comes_due, gather_first, all_first, none_asked, asked_at}

@@ -1,10 +1,10 @@
 -- One more due.
-use Rattle.std.proofs.Common.{◌≡◌, ℕ, zero, suc, ◌+◌, ◌<◌, ◌≤◌, Bool, true, false, if◌then◌else◌, List, [], ◌∷◌, length, get_or, take, refl, sym, ◌∙◌, ap, arith}
+use Rattle.std.proofs.Common.{◌≡◌, ℕ, zero, suc, ◌+◌, ◌<◌, ◌≤◌, Bool, true, false, List, [], ◌∷◌, length, get_or, take, refl, ◌∙◌, ap, arith}
 use Rattle.std.proofs.Math.ListN.{set}
 use Rattle.hv_tree.specs.declared.refusal.Refusal.{Refusal}
 use Rattle.hv_pass.specs.declared.cell.Cell.{Cell}
 use Rattle.hv_pass.specs.declared.cell.Due.{Due}
-use Rattle.hv_pass.specs.Lists.{over, merge}
+use Rattle.hv_pass.specs.Lists.{merge}
 use Rattle.hv_pass.specs.Cells.{kept_at, due_more, due_if, due_in, kept_due, both_due}
 use Rattle.hv_pass.proofs.ListLemmas.{over_nothing, over_more, over_past, over_same, length_over, merge_more, merge_past}
 

@@ -1,12 +1,10 @@
 -- What cells may be, step by step: no more and no less than what events lead to.
-use Rattle.std.proofs.Common.{◌≡◌, ◌⊎◌, inl, inr, ℕ, zero, suc, ◌<◌, ◌≤◌, Bool, true, false, ◌||◌, ◌&&◌, not, if◌then◌else◌, List, [], ◌∷◌, map, length, Option, Some, None, refl, sym, ◌∙◌, ap, subst, arith}
-use Rattle.hv_tree.specs.declared.refusal.Refusal.{Refusal}
+use Rattle.std.proofs.Common.{◌≡◌, ◌⊎◌, inl, inr, ℕ, zero, suc, ◌<◌, Bool, true, false, ◌||◌, ◌&&◌, not, if◌then◌else◌, List, [], ◌∷◌, length, Option, Some, None, refl, ◌∙◌, ap, arith}
 use Rattle.hv_pass.specs.declared.cell.Cell.{Cell}
 use Rattle.hv_pass.specs.declared.act.Act.{Act}
 use Rattle.hv_pass.specs.declared.act.Act.TheVariants as act
 use Rattle.hv_pass.specs.declared.known.Known.{Known}
-use Rattle.hv_pass.specs.Lists.{merge}
-use Rattle.hv_pass.specs.Cells.{is_reached, set_cell, either_cell, begun_cell, turned_cell, cell_may, set_cells, may_in, joined, begun, turned}
+use Rattle.hv_pass.specs.Cells.{is_reached, cell_may, set_cells, may_in, joined, begun, turned}
 use Rattle.hv_pass.specs.Passes.{pass_act, pass_acts}
 use Rattle.hv_pass.proofs.Seen.{inside, seen_after, event_after}
 

@@ -1,5 +1,5 @@
 -- The refusals that are due, and the first that is found, step by step.
-use Rattle.std.proofs.Common.{◌≡◌, ◌⊎◌, inl, inr, ℕ, zero, suc, ◌<◌, ◌≤◌, Bool, true, false, not, if◌then◌else◌, List, [], ◌∷◌, map, length, Option, Some, None, refl, sym, ◌∙◌, ap, subst, arith}
+use Rattle.std.proofs.Common.{◌≡◌, ◌⊎◌, inl, inr, ℕ, zero, suc, ◌<◌, ◌≤◌, Bool, true, false, if◌then◌else◌, List, [], ◌∷◌, length, Option, Some, None, refl, sym, ◌∙◌, ap, subst, arith}
 use Rattle.hv_tree.specs.declared.refusal.Refusal.{Refusal}
 use Rattle.hv_rules.specs.Earlier.{IsFirst}
 use Rattle.hv_pass.specs.declared.cell.Cell.{Cell}
@@ -7,8 +7,8 @@ use Rattle.hv_pass.specs.declared.cell.Due.{Due}
 use Rattle.hv_pass.specs.declared.act.Act.{Act}
 use Rattle.hv_pass.specs.declared.act.Act.TheVariants as act
 use Rattle.hv_pass.specs.declared.known.Known.{Known}
-use Rattle.hv_pass.specs.Lists.{over, merge}
-use Rattle.hv_pass.specs.Cells.{may_in, cell_may, earlier, when, nothing_due, due_more, due_if, due_in, kept_at, due_at, gathered, kept_due, both_due, all_due, none_due}
+use Rattle.hv_pass.specs.Lists.{over}
+use Rattle.hv_pass.specs.Cells.{may_in, earlier, when, due_more, due_if, kept_at, due_at, gathered, kept_due, both_due, all_due, none_due}
 use Rattle.hv_pass.specs.Passes.{pass_act, pass_acts}
 use Rattle.hv_pass.proofs.ListLemmas.{length_over}
 use Rattle.hv_pass.proofs.Seen.{inside, seen_after, Cause, Always, When, Meets, RaisedBy, Raised}

@@ -1,5 +1,5 @@
 -- Reading a plan passes over its flow.
-use Rattle.std.proofs.Common.{◌≡◌, ℕ, Bool, true, false, ◌||◌, List, [], ◌∷◌, ◌++◌, refl, sym, ◌∙◌, ap, append_assoc}
+use Rattle.std.proofs.Common.{◌≡◌, Bool, true, false, ◌||◌, List, [], ◌∷◌, ◌++◌, refl, sym, ◌∙◌, ap, append_assoc}
 use Rattle.std.proofs.lemmas.List.{append-nil}
 use Rattle.hv_rules.specs.Flow.{Flow, Skip, Do, Stop, Then, Either, Loop}
 use Rattle.hv_pass.specs.declared.act.Act.{Act}
@@ -10,7 +10,7 @@ use Rattle.hv_pass.specs.declared.known.Frame.{Frame}
 use Rattle.hv_pass.specs.declared.known.Frame.TheVariants as frame
 use Rattle.hv_pass.specs.Plans.{plan_of}
 use Rattle.hv_pass.specs.Cells.{either_cell, joined}
-use Rattle.hv_pass.specs.Passes.{Progress, pass_acts, with_cells, entered, joined_with, passed, waiting_behind, given, read_all}
+use Rattle.hv_pass.specs.Passes.{Progress, with_cells, entered, joined_with, passed, waiting_behind, given, read_all}
 
 or_assoc : (a b c : Bool) → ((a || b) || c) ≡ (a || (b || c))
 or_assoc true b c = refl

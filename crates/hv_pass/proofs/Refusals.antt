@@ -1,19 +1,17 @@
 -- What a plan finds is the first of all that its flow refuses.
-use Rattle.std.proofs.Common.{◌≡◌, ◌⊎◌, inl, inr, ℕ, zero, suc, ◌+◌, ◌<◌, ◌≤◌, max, nat_le, nat_lt, Bool, true, false, ◌&&◌, if◌then◌else◌, List, [], ◌∷◌, ◌++◌, replicate, length, Option, Some, None, Result, Ok, Err, IfOk, refl, sym, ◌∙◌, ap, subst, append_assoc, arith}
-use Rattle.std.proofs.lemmas.List.{append-nil}
+use Rattle.std.proofs.Common.{◌≡◌, ◌⊎◌, inl, inr, ℕ, zero, suc, ◌+◌, ◌<◌, ◌≤◌, max, nat_le, nat_lt, Bool, true, false, ◌&&◌, if◌then◌else◌, List, [], ◌∷◌, ◌++◌, replicate, length, Option, Some, None, refl, sym, ◌∙◌, ap, subst, arith}
 use Rattle.std.proofs.lemmas.Bool.Decides.{nat_tests}
 use Rattle.hv_tree.specs.declared.refusal.Refusal.{Refusal}
 use Rattle.hv_rules.specs.Flow.{Flow, Skip, Do, Stop, Then, Either, Loop}
 use Rattle.hv_rules.specs.Earlier.{IsFirst}
 use Rattle.hv_pass.specs.declared.cell.Cell.{Cell}
-use Rattle.hv_pass.specs.declared.act.Range.{Range}
 use Rattle.hv_pass.specs.declared.act.Act.{Act}
 use Rattle.hv_pass.specs.declared.act.Act.TheVariants as act
 use Rattle.hv_pass.specs.declared.plan.PassOp.{PassOp}
 use Rattle.hv_pass.specs.declared.plan.PassOp.TheVariants as op
 use Rattle.hv_pass.specs.declared.known.Known.{Known}
 use Rattle.hv_pass.specs.Plans.{plan_of}
-use Rattle.hv_pass.specs.Refused.{Values, start, covers, after_act, after_acts, acts_in, Refuses, IsRefused}
+use Rattle.hv_pass.specs.Refused.{Values, start, after_act, after_acts, acts_in, Refuses, IsRefused}
 use Rattle.hv_pass.specs.Cells.{nothing_due}
 use Rattle.hv_pass.specs.Passes.{passed, read_all, act_end, acts_end, op_end, plan_end, starting}
 use Rattle.hv_pass.proofs.Traces.{Hits, hit_traced, trace_hit}

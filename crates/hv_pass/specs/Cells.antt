@@ -1,5 +1,5 @@
 -- Cells, and the refusals that are due, as the pass computes them.
-use Rattle.std.specs.Prelude.{ℕ, ◌+◌, zero, suc, nat_lt, nat_eq, Bool, true, false, not, ◌&&◌, ◌||◌, if◌then◌else◌, List, [], ◌∷◌, length, map, replicate, Option, Some, None}
+use Rattle.std.specs.Prelude.{ℕ, zero, suc, nat_lt, nat_eq, Bool, false, not, ◌&&◌, ◌||◌, if◌then◌else◌, List, [], ◌∷◌, length, map, replicate, Option, Some, None}
 use Rattle.hv_tree.specs.declared.refusal.Refusal.{Refusal}
 use Rattle.hv_rules.specs.Earlier.{number_of}
 use Rattle.hv_pass.specs.declared.cell.Cell.{Cell}

@@ -1,5 +1,5 @@
 -- What each part of a body leaves open, by the text, whatever run is taken.
-use Rattle.std.proofs.Common.{◌≡◌, ◌⊎◌, inl, inr, ℕ, suc, ◌+◌, ◌<◌, ◌≤◌, nat_lt, Bool, true, false, ◌&&◌, if◌then◌else◌, length, List, [], ◌∷◌, ◌++◌, Option, Some, None, refl, sym, ◌∙◌, ap, subst, append_assoc, length-append, arith}
+use Rattle.std.proofs.Common.{◌≡◌, ℕ, suc, ◌+◌, ◌<◌, ◌≤◌, nat_lt, Bool, true, false, if◌then◌else◌, length, List, [], ◌∷◌, ◌++◌, Option, Some, None, refl, sym, ◌∙◌, ap, subst, append_assoc, length-append, arith}
 use Rattle.std.specs.Prelude.{⊤}
 use Rattle.std.proofs.lemmas.Bool.Decides.{nat_tests}
 use Rattle.hv_tree.specs.declared.place.Place.{Place}
@@ -8,12 +8,11 @@ use Rattle.hv_tree.specs.declared.types.Conv.{Conv}
 use Rattle.hv_tree.specs.declared.types.Conv.TheVariants as conv
 use Rattle.hv_tree.specs.Core.{Core, CoreExpr, Number, Truth, Path, Calls, Awaits, Array, Filled, Count, Lambda, Prefix, Chain, CoreExprs, NoExprs, ExprOf, CoreLinks, NoLinks, LinkOf, CoreSteps, NoSteps, FieldStep, IndexStep, CoreCall, CallOf, CoreArgs, NoArgs, ValueArg, RefArg, CoreBlock, BlockOf, CoreBranches, NoElse, Else, BranchOf, CoreStmts, NoStmts, StmtOf, CoreStmt, Var, VarWith, Let, Inout, Assign, If, While, Return, ReturnWith, Print, Task, AwaitsAlone, CallsAlone, Bare}
 use Rattle.hv_rules.specs.declared.path.StaticPath.{StaticPath}
-use Rattle.hv_rules.specs.declared.event.FlowEvent.{FlowEvent}
 use Rattle.hv_rules.specs.declared.event.FlowEvent.TheVariants as event
 use Rattle.hv_rules.specs.Flow.{Skip, Do, Then, Either}
-use Rattle.hv_rules.specs.Locals.{LocalKind, Captured, Passed, VarBound, LetBound, InoutBound, Handle, Local, CoreBody, entry_locals, locals_of, number_in, value_of, declared_in, in_block, in_stmts, in_branches}
+use Rattle.hv_rules.specs.Locals.{LocalKind, Captured, Passed, VarBound, LetBound, InoutBound, Handle, Local, CoreBody, entry_locals, locals_of, number_in, value_of, declared_in, in_block, in_stmts}
 use Rattle.hv_rules.specs.Events as events
-use Rattle.hv_rules.specs.States.{Access, Reading, Writing, opened, closed, dropped_or_kept, stays, without_bindings}
+use Rattle.hv_rules.specs.States.{Access, Reading, closed, dropped_or_kept, stays, without_bindings}
 use Rattle.hv_traces.specs.Carried.{behind, Steady}
 use Rattle.hv_traces.specs.Opened.{opens}
 
@@ -96,9 +95,10 @@ closes events.ByCall false f others at h k = one_then f others h k
 closes events.BySpawn false f others at h k = one_then f others h k
 closes events.ByCall true f others at h k = λ xs.
     let p = h xs in
-    let q = k (p.1.0 ∷ xs) in
-    ((p.0, subst (λ z. Steady opens (Then others (Do (events.mark event.Close at))) z) (sym p.1.2) (q.0, tt)),
-    ap (λ z. closed (behind opens others z)) p.1.2 ∙ (ap closed q.1 ∙ closed_first p.1.0 xs p.1.1))
+    let q = k (p.1.0 ∷ xs) in (
+      (p.0, subst (λ z. Steady opens (Then others (Do (events.mark event.Close at))) z) (sym p.1.2) (q.0, tt)),
+      ap (λ z. closed (behind opens others z)) p.1.2 ∙ (ap closed q.1 ∙ closed_first p.1.0 xs p.1.1),
+    )
 closes events.BySpawn true f others at h k = λ xs.
     let p = h xs in
     let q = k xs in
@@ -255,9 +255,10 @@ grows_binds : (n m : ℕ) (g : Bool) (f l : events.Events) → n < m → Grows g
 grows_binds n m false f l k h q = level_binds n m (Then f l) (one_then f l h q)
 grows_binds n m true f l k h q = λ xs b.
     let p = h xs in
-    let r = q (p.1.0 ∷ xs) in
-    ((p.0, subst (λ z. Steady opens l z) (sym p.1.2) r.0),
-    (p.1.0 ∷ [], ((n, p.1.1, omega arith, k), tt), ap (behind opens l) p.1.2 ∙ r.1))
+    let r = q (p.1.0 ∷ xs) in (
+      (p.0, subst (λ z. Steady opens l z) (sym p.1.2) r.0),
+      (p.1.0 ∷ [], ((n, p.1.1, omega arith, k), tt), ap (behind opens l) p.1.2 ∙ r.1),
+    )
 
 module _ (tree : Core) (locals : List Local) where
   value : (x : CoreExpr) → Level (events.value_events tree locals x)
@@ -342,10 +343,14 @@ module _ (tree : Core) (locals : List Local) where
             Binds s.next m (events.stmts_events tree locals s (StmtOf x rest))
         both h k xs b =
             let p = h xs b in
-            let q = k (p.1.0 ++ xs) (below_with s.next l p.1.0 xs (omega arith) p.1.1 b) in
-            ((p.0, subst (λ z. Steady opens (events.stmts_events tree locals (events.behind x s) rest) z) (sym p.1.2) q.0),
-            (q.1.0 ++ p.1.0, subst (λ z. Among s.next z (q.1.0 ++ p.1.0)) same (among_both s.next l (l + length (in_stmts rest)) p.1.0 q.1.0 (omega arith) (omega arith) p.1.1 q.1.1),
-            ap (behind opens (events.stmts_events tree locals (events.behind x s) rest)) p.1.2 ∙ (q.1.2 ∙ sym (append_assoc q.1.0 p.1.0 xs))))
+            let q = k (p.1.0 ++ xs) (below_with s.next l p.1.0 xs (omega arith) p.1.1 b) in (
+              (p.0, subst (λ z. Steady opens (events.stmts_events tree locals (events.behind x s) rest) z) (sym p.1.2) q.0),
+              (
+                q.1.0 ++ p.1.0,
+                subst (λ z. Among s.next z (q.1.0 ++ p.1.0)) same (among_both s.next l (l + length (in_stmts rest)) p.1.0 q.1.0 (omega arith) (omega arith) p.1.1 q.1.1),
+                ap (behind opens (events.stmts_events tree locals (events.behind x s) rest)) p.1.2 ∙ (q.1.2 ∙ sym (append_assoc q.1.0 p.1.0 xs)),
+              ),
+            )
 
 -- ---- bodies
 

@@ -1,9 +1,9 @@
 -- The traces of a flow whose events are replaced.
-use Rattle.std.proofs.Common.{◌≡◌, ◌⊎◌, inl, inr, ◌↔◌, List, [], ◌∷◌, ◌++◌, map, refl, sym, ◌∙◌, ap, subst}
+use Rattle.std.proofs.Common.{◌≡◌, inl, inr, ◌↔◌, List, [], ◌∷◌, ◌++◌, map, refl, sym, ◌∙◌, ap, subst}
 use Rattle.hv_rules.specs.Flow.{Flow, Skip, Do, Stop, Then, Either, Loop, Turns, none, more, Ends, Leaves, IsWhole, IsTrace}
 use Rattle.hv_traces.specs.Mapped.{mapped}
 
-map-append : {M E : Type 0} (g : M → E) (xs ys : List M) → map g (xs ++ ys) ≡ map g xs ++ map g ys
+pub map-append : {M E : Type 0} (g : M → E) (xs ys : List M) → map g (xs ++ ys) ≡ map g xs ++ map g ys
 map-append g [] ys = refl
 map-append g (x ∷ xs) ys = ap (λ w. g x ∷ w) (map-append g xs ys)
 

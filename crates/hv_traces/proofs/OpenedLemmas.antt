@@ -8,12 +8,12 @@ use Rattle.hv_rules.specs.Locals.{CoreBody}
 use Rattle.hv_rules.specs.Events.{Belongs, Mark, body_events}
 use Rattle.hv_rules.specs.States.{Access, State, after_event, after_all, after, start, Open}
 use Rattle.hv_rules.specs.Rules.{Trace}
-use Rattle.hv_traces.specs.Carried.{carrying, without, after_each, Carries}
+use Rattle.hv_traces.specs.Carried.{without, after_each, Carries}
 use Rattle.hv_traces.specs.Opened.{open_behind, opens, opened_at, IsOpenedAt}
-use Rattle.hv_traces.proofs.CarriedLemmas.{zipped, zipped-append, without_zipped, without-append, zipped_carries, trace_zipped, trace_of}
+use Rattle.hv_traces.proofs.CarriedLemmas.{zipped, zipped-append, without_zipped, without-append, trace_zipped, trace_of}
 use Rattle.hv_traces.proofs.Levels.{body_steady}
 
-event_opens : (e : FlowEvent) (of : Belongs) (s : State) → (after_event e of s).accesses ≡ open_behind e of s.accesses
+pub event_opens : (e : FlowEvent) (of : Belongs) (s : State) → (after_event e of s).accesses ≡ open_behind e of s.accesses
 event_opens event.Entry of s = refl
 event_opens (event.Declare n) of s = refl
 event_opens (event.Init p) of s = refl
@@ -41,12 +41,13 @@ pub is_opened_at : (tree : Core) (body : CoreBody) → IsOpenedAt tree body
 is_opened_at tree body = record { there = there; only = only }
   where
     there : (ms : List Mark) (m : Mark) → Trace tree body (ms ++ m ∷ []) → (ps : List (Mark × List Access)) × IsTrace (opened_at tree body) (ps ++ (m, Open ms) ∷ []) × (without ps ≡ ms)
-    there ms m t =
-        (zipped opens ms [],
-        subst (λ w. IsTrace (opened_at tree body) w)
-        (zipped-append opens ms (m ∷ []) [] ∙ ap (λ (xs : List Access). zipped opens ms [] ++ (m, xs) ∷ []) (sym (all_open ms start)))
-        (trace_zipped opens (body_events tree body) [] (body_steady tree body) (ms ++ m ∷ []) t),
-        without_zipped opens ms [])
+    there ms m t = (
+      zipped opens ms [],
+      subst (λ w. IsTrace (opened_at tree body) w)
+          (zipped-append opens ms (m ∷ []) [] ∙ ap (λ (xs : List Access). zipped opens ms [] ++ (m, xs) ∷ []) (sym (all_open ms start)))
+          (trace_zipped opens (body_events tree body) [] (body_steady tree body) (ms ++ m ∷ []) t),
+      without_zipped opens ms [],
+    )
 
     only : (ps : List (Mark × List Access)) (m : Mark) (xs : List Access) → IsTrace (opened_at tree body) (ps ++ (m, xs) ∷ []) → Trace tree body (without ps ++ m ∷ []) × (xs ≡ Open (without ps))
     only ps m xs t =

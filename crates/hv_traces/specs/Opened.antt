@@ -1,5 +1,5 @@
 -- The accesses that are open at each event of a body.
-use Rattle.std.specs.Prelude.{◌≡◌, ◌↔◌, List, [], ◌∷◌, ◌++◌}
+use Rattle.std.specs.Prelude.{◌≡◌, List, [], ◌∷◌, ◌++◌}
 use Rattle.hv_tree.specs.Core.{Core}
 use Rattle.hv_rules.specs.declared.event.FlowEvent.{FlowEvent}
 use Rattle.hv_rules.specs.declared.event.FlowEvent.TheVariants as event
