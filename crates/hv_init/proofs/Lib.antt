@@ -1,0 +1,5 @@
+pub mod Lists
+pub mod Filling
+pub mod Refusing
+pub mod Whole
+pub mod SpanLemmas

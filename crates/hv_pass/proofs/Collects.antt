@@ -1,0 +1,368 @@
+-- The pass over a flow knows what its cells may be, and the first of all that is refused on the way.
+use Rattle.std.proofs.Common.{◌≡◌, ◌⊎◌, inl, inr, ℕ, zero, suc, ◌≤◌, Bool, List, [], ◌∷◌, ◌++◌, map, length, replicate, Option, Some, None, refl, sym, ◌∙◌, ap, subst, arith}
+use Rattle.std.proofs.lemmas.List.{append-nil}
+use Rattle.hv_tree.specs.declared.refusal.Refusal.{Refusal}
+use Rattle.hv_rules.specs.Flow.{Flow, Skip, Do, Stop, Then, Either, Loop, Turns, none, more, Ends}
+use Rattle.hv_rules.specs.Earlier.{IsFirst}
+use Rattle.hv_pass.specs.declared.cell.Cell.{Cell}
+use Rattle.hv_pass.specs.declared.cell.Due.{Due}
+use Rattle.hv_pass.specs.declared.act.Act.{Act}
+use Rattle.hv_pass.specs.declared.known.Known.{Known}
+use Rattle.hv_pass.specs.Lists.{merge}
+use Rattle.hv_pass.specs.Cells.{begun_cell, turned_cell, joined, begun, turned, nothing_due, kept_due, both_due, none_due}
+use Rattle.hv_pass.specs.Passes.{pass_acts, with_cells, stopped, entered, left, passed}
+use Rattle.hv_pass.proofs.ListLemmas.{length_merge}
+use Rattle.hv_pass.proofs.Traces.{Hits}
+use Rattle.hv_pass.proofs.Seen.{run, run-append, Moves, stays, sets, run_moves, run_filled, Cause, Always, When, Raised, raised_of, raised_always, raised_when, never_raised, raised_self}
+use Rattle.hv_pass.proofs.Firsts.{same_first}
+use Rattle.hv_pass.proofs.Exactness.{May, Reached, never, event_stepped, event_steps, joined_left, joined_right, joins, begins, begun_of, turned_left, turned_right, turned_of, may_length}
+use Rattle.hv_pass.proofs.Owed.{known_of, Fits, HereIn, acts_fit, acts_first, Comes_due, gather_first, all_first, none_asked, asked_at}
+
+either_way : {X Y Z : Type 0} → X ⊎ Y → (X → Z) → (Y → Z) → Z
+either_way (inl p) f g = f p
+either_way (inr p) f g = g p
+
+some_apart : {X : Type 0} (v : Bool) → None ≡ Some v → X
+some_apart v e = absurd (by e)
+  where
+    by : None ≡ Some v → ⊥
+    by h = cc
+
+-- ---- there is room for what is due
+
+joined_length : (n : ℕ) (cs ds : List Cell) → length cs ≤ n → length ds ≤ n → length (joined cs ds) ≤ n
+joined_length n [] ds h g = g
+joined_length n (c ∷ cs) [] h g = h
+joined_length zero (c ∷ cs) (d ∷ ds) h g = absurd (omega (arith, h))
+joined_length (suc n) (c ∷ cs) (d ∷ ds) h g = omega (arith, joined_length n cs ds (omega (arith, h)) (omega (arith, g)))
+
+length_mapped : {A B : Type 0} (f : A → B) (xs : List A) → length (map f xs) ≡ length xs
+length_mapped f [] = refl
+length_mapped f (x ∷ xs) = ap suc (length_mapped f xs)
+
+pub length_alike : {A : Type 0} (n : ℕ) (x : A) → length (replicate n x) ≡ n
+length_alike zero x = refl
+length_alike (suc n) x = ap suc (length_alike n x)
+
+entered_fits : (k : Known) → Fits (length k.cells) (entered k)
+entered_fits k = record { cells = omega (arith, length_mapped begun_cell k.cells); dues = length_alike (length k.cells) nothing_due }
+
+left_fits : (n : ℕ) (k t : Known) → Fits n k → Fits n (left k t)
+left_fits n k t f = record {
+  cells = omega (arith, length_merge turned_cell k.cells t.cells, f.cells);
+  dues = length_merge both_due k.dues (merge kept_due t.dues (turned k.cells t.cells)) ∙ f.dues;
+}
+
+pub passed_fits : (n : ℕ) (f : Flow (List Act)) (k : Known) → Fits n k → Fits n (passed f k)
+passed_fits n Skip k h = h
+passed_fits n (Do acts) k h = acts_fit n acts k h
+passed_fits n (Stop acts) k h = let p = acts_fit n acts k h in record { cells = omega arith; dues = p.dues }
+passed_fits n (Then a b) k h = passed_fits n b (passed a k) (passed_fits n a k h)
+passed_fits n (Either a b) k h =
+    let p = passed_fits n a k h in
+    let q = passed_fits n b (with_cells k.cells (passed a k)) (record { cells = h.cells; dues = p.dues }) in
+    record { cells = joined_length n (passed a k).cells _ p.cells q.cells; dues = q.dues }
+passed_fits n (Loop a) k h = left_fits n k (passed a (entered k)) h
+
+-- ---- what cells may be is what runs lead to
+
+-- some events that are so lead from what the cell may be before
+pub record Comes (Is : List (List Act) → Type 0) (cs : List Cell) (i : ℕ) (r : Option Bool) : Type 0 where
+  pub q : Option Bool
+  pub es : List (List Act)
+  pub before : May cs i q
+  pub is : Is es
+  pub to : run i es q ≡ r
+
+one_turn : (a : Flow (List Act)) (cs ts : List Cell) (i : ℕ) (r : Option Bool) →
+    ((w : Bool) → May ts i (Some w) → Comes (Ends a) (begun cs) i (Some w)) → (v : Bool) → r ≡ Some v → May ts i (Some v) → Reached cs i → Comes (Ends (Loop a)) cs i r
+one_turn a cs ts i r ih v e m g = by (ih v m)
+  where
+    by : Comes (Ends a) (begun cs) i (Some v) → Comes (Ends (Loop a)) cs i r
+    by c = record { q = g.0; es = c.es; before = g.1; is = more c.es [] c.is (none refl) (sym (append-nil c.es)); to = same (run_moves i c.es) ∙ sym e }
+      where
+        from_none : run i c.es None ≡ Some v
+        from_none = subst (λ (u : Option Bool). run i c.es u ≡ Some v) (begun_of cs i c.q c.before).0 c.to
+
+        same : Moves (run i c.es) → run i c.es g.0 ≡ Some v
+        same (stays h) = some_apart v (sym (h None) ∙ from_none)
+        same (sets w h) = h g.0 ∙ (sym (h None) ∙ from_none)
+
+pub comes : (f : Flow (List Act)) (k : Known) (i : ℕ) (r : Option Bool) → May (passed f k).cells i r → Comes (Ends f) k.cells i r
+comes Skip k i r m = record { q = r; es = []; before = m; is = refl; to = refl }
+comes (Do acts) k i r m = let p = event_steps acts k i r m in record { q = p.0; es = acts ∷ []; before = p.1; is = refl; to = p.2 }
+comes (Stop acts) k i r m = never m
+comes (Then a b) k i r m =
+    let t = comes b (passed a k) i r m in
+    let s = comes a k i t.q t.before in
+    record { q = s.q; es = s.es ++ t.es; before = s.before; is = (s.es, t.es, s.is, t.is, refl); to = run-append i s.es t.es s.q ∙ (ap (run i t.es) s.to ∙ t.to) }
+comes (Either a b) k i r m = either_way (joins _ _ i r m)
+    (λ h. let t = comes a k i r h in record { q = t.q; es = t.es; before = t.before; is = inl t.is; to = t.to })
+    (λ h. let t = comes b (with_cells k.cells (passed a k)) i r h in record { q = t.q; es = t.es; before = t.before; is = inr t.is; to = t.to })
+comes (Loop a) k i r m = either_way (turned_of k.cells (passed a (entered k)).cells i r m)
+    (λ h. record { q = r; es = []; before = h; is = none refl; to = refl })
+    (λ h. one_turn a k.cells (passed a (entered k)).cells i r (λ w g. comes a (entered k) i (Some w) g) h.0 h.1 h.2 h.3)
+
+-- any number of turns leaves a cell as it was, or sets it as one of them does
+abbrev Turned : Flow (List Act) → ℕ → List (List Act) → Option Bool → Type 0
+Turned a i xs q = (run i xs q ≡ q) ⊎ ((ys : List (List Act)) × (v : Bool) × Ends a ys × (run i ys None ≡ Some v) × (run i xs q ≡ Some v))
+
+after_turns : (a : Flow (List Act)) (i : ℕ) (xs : List (List Act)) (q : Option Bool) → Turns (Ends a) xs → Turned a i xs q
+after_turns a i xs q (none e) = inl (ap (λ (w : List (List Act)). run i w q) e)
+after_turns a i xs q (more us vs p t e) = by (run_moves i us) (after_turns a i vs (run i us q) t)
+  where
+    all : run i xs q ≡ run i vs (run i us q)
+    all = ap (λ (w : List (List Act)). run i w q) e ∙ run-append i us vs q
+
+    by : Moves (run i us) → Turned a i vs (run i us q) → Turned a i xs q
+    by m (inr (ys, v, r, h, g)) = inr (ys, v, r, h, all ∙ g)
+    by (stays h) (inl g) = inl (all ∙ (g ∙ h q))
+    by (sets v h) (inl g) = inr (us, v, p, h None, all ∙ (g ∙ h q))
+
+pub stands : (f : Flow (List Act)) (k : Known) (i : ℕ) (q : Option Bool) (es : List (List Act)) → May k.cells i q → Ends f es → May (passed f k).cells i (run i es q)
+stands Skip k i q es m e = subst (λ (w : List (List Act)). May k.cells i (run i w q)) (sym e) m
+stands (Do acts) k i q es m e = subst (λ (w : List (List Act)). May (pass_acts acts k).cells i (run i w q)) (sym e) (event_stepped acts k i q m)
+stands (Stop acts) k i q es m e = absurd e
+stands (Then a b) k i q es m (xs, ys, p, r, e) =
+    subst (λ (s : Option Bool). May (passed (Then a b) k).cells i s) (sym (ap (λ (w : List (List Act)). run i w q) e ∙ run-append i xs ys q)) (stands b (passed a k) i (run i xs q) ys (stands a k i q xs m p) r)
+stands (Either a b) k i q es m (inl p) = joined_left _ _ i _ (stands a k i q es m p)
+stands (Either a b) k i q es m (inr p) = joined_right (passed a k).cells _ i _ (stands b (with_cells k.cells (passed a k)) i q es m p)
+stands (Loop a) k i q es m t = by (after_turns a i es q t) (λ ys p. stands a (entered k) i None ys (begins k.cells i (q, m)) p)
+  where
+    by : Turned a i es q → ((ys : List (List Act)) → Ends a ys → May (passed a (entered k)).cells i (run i ys None)) → May (passed (Loop a) k).cells i (run i es q)
+    by (inl h) ih = subst (λ (s : Option Bool). May (passed (Loop a) k).cells i s) (sym h) (turned_left k.cells (passed a (entered k)).cells i q m)
+    by (inr (ys, v, p, h, g)) ih =
+        subst (λ (s : Option Bool). May (passed (Loop a) k).cells i s) (sym g)
+        (turned_right k.cells (passed a (entered k)).cells i v (q, m) (subst (λ (s : Option Bool). May (passed a (entered k)).cells i s) h (ih ys p)))
+
+-- ---- what is known to be refused is the first of all that runs come to
+
+-- some run comes to an event that refuses because of some cell
+pub record Raises (f : Flow (List Act)) (cs : List Cell) (c : Cause) (r : Refusal) : Type 0 where
+  pub es : List (List Act)
+  pub e : List Act
+  pub i : ℕ
+  pub q : Option Bool
+  pub hits : Hits f es e
+  pub before : May cs i q
+  pub raised : Raised i (run i es q) e c r
+
+-- the claim about a flow
+abbrev pub Collects : Flow (List Act) → Type 1
+Collects f = (n : ℕ) (k : Known) (c : Cause) (T : Refusal → Type 0) → Fits n k → IsFirst T (known_of k c) → IsFirst (λ r. T r ⊎ Raises f k.cells c r) (known_of (passed f k) c)
+
+alone_to : (x : List Act) (f : Flow (List Act)) → Hits f [] x → (cs : List Cell) (c : Cause) (T : Refusal → Type 0) (r : Refusal) → T r ⊎ HereIn cs x c r → T r ⊎ Raises f cs c r
+alone_to x f hit cs c T r (inl t) = inl t
+alone_to x f hit cs c T r (inr p) = inr (record { es = []; e = x; i = p.0; q = p.1; hits = hit; before = p.2; raised = p.3 })
+
+alone_of : (x : List Act) (f : Flow (List Act)) → ((es : List (List Act)) (e : List Act) → Hits f es e → (es ≡ []) × (e ≡ x)) → (cs : List Cell) (c : Cause) (T : Refusal → Type 0) (r : Refusal) → T r ⊎ Raises f cs c r → T r ⊎ HereIn cs x c r
+alone_of x f is cs c T r (inl t) = inl t
+alone_of x f is cs c T r (inr v) = inr (v.i, v.q, v.before, here (is v.es v.e v.hits))
+  where
+    here : (v.es ≡ []) × (v.e ≡ x) → Raised v.i v.q x c r
+    here h = subst (λ (z : List Act). Raised v.i v.q z c r) h.1 (subst (λ (w : List (List Act)). Raised v.i (run v.i w v.q) v.e c r) h.0 v.raised)
+
+then_to : (a b : Flow (List Act)) (k : Known) (c : Cause) (T : Refusal → Type 0) (r : Refusal) → (T r ⊎ Raises a k.cells c r) ⊎ Raises b (passed a k).cells c r → T r ⊎ Raises (Then a b) k.cells c r
+then_to a b k c T r (inl (inl t)) = inl t
+then_to a b k c T r (inl (inr v)) = inr (record { es = v.es; e = v.e; i = v.i; q = v.q; hits = inl v.hits; before = v.before; raised = v.raised })
+then_to a b k c T r (inr v) =
+    let s = comes a k v.i v.q v.before in
+    inr (record {
+      es = s.es ++ v.es;
+      e = v.e;
+      i = v.i;
+      q = s.q;
+      hits = inr (s.es, v.es, s.is, v.hits, refl);
+      before = s.before;
+      raised = subst (λ (u : Option Bool). Raised v.i u v.e c r) (sym (run-append v.i s.es v.es s.q ∙ ap (run v.i v.es) s.to)) v.raised;
+    })
+
+then_of : (a b : Flow (List Act)) (k : Known) (c : Cause) (T : Refusal → Type 0) (r : Refusal) → T r ⊎ Raises (Then a b) k.cells c r → (T r ⊎ Raises a k.cells c r) ⊎ Raises b (passed a k).cells c r
+then_of a b k c T r (inl t) = inl (inl t)
+then_of a b k c T r (inr v) = by v.hits
+  where
+    by : Hits (Then a b) v.es v.e → (T r ⊎ Raises a k.cells c r) ⊎ Raises b (passed a k).cells c r
+    by (inl h) = inl (inr (record { es = v.es; e = v.e; i = v.i; q = v.q; hits = h; before = v.before; raised = v.raised }))
+    by (inr (xs, ys, p, h, e)) = inr (record {
+      es = ys;
+      e = v.e;
+      i = v.i;
+      q = run v.i xs v.q;
+      hits = h;
+      before = stands a k v.i v.q xs v.before p;
+      raised = subst (λ (u : Option Bool). Raised v.i u v.e c r) (ap (λ (w : List (List Act)). run v.i w v.q) e ∙ run-append v.i xs ys v.q) v.raised;
+    })
+
+either_to : (a b : Flow (List Act)) (cs : List Cell) (c : Cause) (T : Refusal → Type 0) (r : Refusal) → (T r ⊎ Raises a cs c r) ⊎ Raises b cs c r → T r ⊎ Raises (Either a b) cs c r
+either_to a b cs c T r (inl (inl t)) = inl t
+either_to a b cs c T r (inl (inr v)) = inr (record { es = v.es; e = v.e; i = v.i; q = v.q; hits = inl v.hits; before = v.before; raised = v.raised })
+either_to a b cs c T r (inr v) = inr (record { es = v.es; e = v.e; i = v.i; q = v.q; hits = inr v.hits; before = v.before; raised = v.raised })
+
+either_of : (a b : Flow (List Act)) (cs : List Cell) (c : Cause) (T : Refusal → Type 0) (r : Refusal) → T r ⊎ Raises (Either a b) cs c r → (T r ⊎ Raises a cs c r) ⊎ Raises b cs c r
+either_of a b cs c T r (inl t) = inl (inl t)
+either_of a b cs c T r (inr v) = by v.hits
+  where
+    by : Hits (Either a b) v.es v.e → (T r ⊎ Raises a cs c r) ⊎ Raises b cs c r
+    by (inl h) = inl (inr (record { es = v.es; e = v.e; i = v.i; q = v.q; hits = h; before = v.before; raised = v.raised }))
+    by (inr h) = inr (record { es = v.es; e = v.e; i = v.i; q = v.q; hits = h; before = v.before; raised = v.raised })
+
+-- ---- a loop
+
+-- what the turn refuses, where it begins anywhere
+abbrev InTurn : Flow (List Act) → List Cell → Cause → Refusal → Type 0
+InTurn a cs c r = Raises a (begun cs) c r
+
+turn_event : (i : ℕ) (es : List (List Act)) (q : Option Bool) (e : List Act) (c : Cause) (r : Refusal) → q ≡ None → Raised i (run i es q) e c r → Raised i (run i es None) e c r
+turn_event i es q e c r h p = subst (λ (u : Option Bool). Raised i (run i es u) e c r) h p
+
+-- a refusal in a turn comes after turns that lead to where it begins
+loop_raises : (a : Flow (List Act)) (k : Known) (i : ℕ) (u : Option Bool) (es : List (List Act)) (e : List Act) (c : Cause) (r : Refusal) →
+    May (passed (Loop a) k).cells i u → Hits a es e → Raised i (run i es u) e c r → Raises (Loop a) k.cells c r
+loop_raises a k i u es e c r m h p =
+    let s = comes (Loop a) k i u m in
+    record {
+      es = s.es ++ es;
+      e = e;
+      i = i;
+      q = s.q;
+      hits = (s.es, es, s.is, h, refl);
+      before = s.before;
+      raised = subst (λ (w : Option Bool). Raised i w e c r) (sym (run-append i s.es es s.q ∙ ap (run i es) s.to)) p;
+    }
+
+always_to : (a : Flow (List Act)) (k : Known) (r : Refusal) → InTurn a k.cells Always r → Raises (Loop a) k.cells Always r
+always_to a k r v = by (begun_of k.cells v.i v.q v.before)
+  where
+    by : (v.q ≡ None) × Reached k.cells v.i → Raises (Loop a) k.cells Always r
+    by (e, g) = loop_raises a k v.i g.0 v.es v.e Always r (turned_left k.cells (passed a (entered k)).cells v.i g.0 g.1) v.hits (start g.0)
+      where
+        from_none : Raised v.i (run v.i v.es None) v.e Always r
+        from_none = turn_event v.i v.es v.q v.e Always r e v.raised
+
+        start : (u : Option Bool) → Raised v.i (run v.i v.es u) v.e Always r
+        start None = from_none
+        start (Some w) = subst (λ (z : Option Bool). Raised v.i z v.e Always r) (sym (run_filled w v.i v.es None)) (raised_always w v.i (run v.i v.es None) v.e r from_none)
+
+when_to : (a : Flow (List Act)) (k : Known) (j : ℕ) (w : Bool) (r : Refusal) → May (passed (Loop a) k).cells j (Some w) → InTurn a k.cells (When j w) r → Raises (Loop a) k.cells Always r
+when_to a k j w r m v =
+    let e = (begun_of k.cells v.i v.q v.before).0 in
+    let p = turn_event v.i v.es v.q v.e (When j w) r e v.raised in
+    let s = raised_self v.i (run v.i v.es None) v.e j w r p in
+    let p' = subst (λ (z : ℕ). Raised v.i (run v.i v.es None) v.e (When z w) r) s p in
+    loop_raises a k v.i (Some w) v.es v.e Always r (subst (λ (z : ℕ). May (passed (Loop a) k).cells z (Some w)) s m) v.hits
+    (subst (λ (z : Option Bool). Raised v.i z v.e Always r) (sym (run_filled w v.i v.es None)) (raised_when w v.i (run v.i v.es None) v.e r p'))
+
+kept_to : (a : Flow (List Act)) (k : Known) (j : ℕ) (w : Bool) (r : Refusal) → May (passed (Loop a) k).cells j None → InTurn a k.cells (When j w) r → Raises (Loop a) k.cells (When j w) r
+kept_to a k j w r m v =
+    let e = (begun_of k.cells v.i v.q v.before).0 in
+    let p = turn_event v.i v.es v.q v.e (When j w) r e v.raised in
+    let s = raised_self v.i (run v.i v.es None) v.e j w r p in
+    loop_raises a k v.i None v.es v.e (When j w) r (subst (λ (z : ℕ). May (passed (Loop a) k).cells z None) s m) v.hits p
+
+-- the same the other way: what the loop refuses is refused in a turn
+abbrev AlwaysParts : Flow (List Act) → Known → Refusal → Type 0
+AlwaysParts a k r = InTurn a k.cells Always r ⊎ Comes_due (passed (Loop a) k).cells (λ j w. InTurn a k.cells (When j w)) r
+
+in_turn : (a : Flow (List Act)) (k : Known) (i : ℕ) (es : List (List Act)) (e : List Act) (c : Cause) (r : Refusal) → Reached k.cells i → Hits a es e → Raised i (run i es None) e c r → InTurn a k.cells c r
+in_turn a k i es e c r g h p = record { es = es; e = e; i = i; q = None; hits = h; before = begins k.cells i g; raised = p }
+
+always_by : (a : Flow (List Act)) (k : Known) (i : ℕ) (u : Option Bool) (es : List (List Act)) (e : List Act) (r : Refusal) →
+    Reached k.cells i → May (passed (Loop a) k).cells i u → Hits a es e → Raised i (run i es u) e Always r → AlwaysParts a k r
+always_by a k i None es e r g m h p = inl (in_turn a k i es e Always r g h p)
+always_by a k i (Some w) es e r g m h p = by (raised_of w i (run i es None) e r (subst (λ (z : Option Bool). Raised i z e Always r) (run_filled w i es None) p))
+  where
+    by : Raised i (run i es None) e Always r ⊎ Raised i (run i es None) e (When i w) r → AlwaysParts a k r
+    by (inl q) = inl (in_turn a k i es e Always r g h q)
+    by (inr q) = inr (i, w, m, in_turn a k i es e (When i w) r g h q)
+
+always_of : (a : Flow (List Act)) (k : Known) (r : Refusal) → Raises (Loop a) k.cells Always r → AlwaysParts a k r
+always_of a k r v = by v.hits
+  where
+    by : Hits (Loop a) v.es v.e → AlwaysParts a k r
+    by (xs, ys, t, h, e) = always_by a k v.i (run v.i xs v.q) ys v.e r (v.q, v.before) (stands (Loop a) k v.i v.q xs v.before t) h
+        (subst (λ (u : Option Bool). Raised v.i u v.e Always r) (ap (λ (w : List (List Act)). run v.i w v.q) e ∙ run-append v.i xs ys v.q) v.raised)
+
+kept_by : (a : Flow (List Act)) (k : Known) (i : ℕ) (u : Option Bool) (es : List (List Act)) (e : List Act) (j : ℕ) (w : Bool) (r : Refusal) →
+    Reached k.cells i → May (passed (Loop a) k).cells i u → Hits a es e → Raised i (run i es u) e (When j w) r → May (passed (Loop a) k).cells j None × InTurn a k.cells (When j w) r
+kept_by a k i None es e j w r g m h p =
+    (subst (λ (z : ℕ). May (passed (Loop a) k).cells z None) (sym (raised_self i (run i es None) e j w r p)) m, in_turn a k i es e (When j w) r g h p)
+kept_by a k i (Some x) es e j w r g m h p = absurd (never_raised x i (run i es None) e j w r (subst (λ (z : Option Bool). Raised i z e (When j w) r) (run_filled x i es None) p))
+
+kept_of : (a : Flow (List Act)) (k : Known) (j : ℕ) (w : Bool) (r : Refusal) → Raises (Loop a) k.cells (When j w) r → May (passed (Loop a) k).cells j None × InTurn a k.cells (When j w) r
+kept_of a k j w r v = by v.hits
+  where
+    by : Hits (Loop a) v.es v.e → May (passed (Loop a) k).cells j None × InTurn a k.cells (When j w) r
+    by (xs, ys, t, h, e) = kept_by a k v.i (run v.i xs v.q) ys v.e j w r (v.q, v.before) (stands (Loop a) k v.i v.q xs v.before t) h
+        (subst (λ (u : Option Bool). Raised v.i u v.e (When j w) r) (ap (λ (z : List (List Act)). run v.i z v.q) e ∙ run-append v.i xs ys v.q) v.raised)
+
+-- what is due as the turn ends
+turn_due : (a : Flow (List Act)) → Collects a → (k : Known) (j : ℕ) (w : Bool) → IsFirst (InTurn a k.cells (When j w)) (asked_at (passed a (entered k)).dues j w)
+turn_due a ih k j w = same_first _ _ _ (λ r p. to r p) (λ r p. inr p) (ih (length k.cells) (entered k) (When j w) (λ r. ⊥) (entered_fits k) start)
+  where
+    start : IsFirst (λ (r : Refusal). ⊥) (asked_at (none_due k.cells) j w)
+    start = subst (λ (v : Option Refusal). IsFirst (λ (r : Refusal). ⊥) v) (sym (none_asked k.cells j w)) (λ r h. h)
+
+    to : (r : Refusal) → ⊥ ⊎ InTurn a k.cells (When j w) r → InTurn a k.cells (When j w) r
+    to r (inl p) = absurd p
+    to r (inr p) = p
+
+loop_first : (a : Flow (List Act)) → Collects a → Collects (Loop a)
+loop_first a ih n k Always T f h =
+    same_first _ _ _ (λ r p. to r p) (λ r p. back r p)
+    (gather_first (passed (Loop a) k).cells (passed a (entered k)).dues (passed a (entered k)).found (λ r. T r ⊎ InTurn a k.cells Always r) (λ j w. InTurn a k.cells (When j w))
+    (ih (length k.cells) (entered k) Always T (entered_fits k) h) (λ j w. turn_due a ih k j w))
+  where
+    to : (r : Refusal) → (T r ⊎ InTurn a k.cells Always r) ⊎ Comes_due (passed (Loop a) k).cells (λ j w. InTurn a k.cells (When j w)) r → T r ⊎ Raises (Loop a) k.cells Always r
+    to r (inl (inl t)) = inl t
+    to r (inl (inr v)) = inr (always_to a k r v)
+    to r (inr v) = inr (when_to a k v.0 v.1 r v.2 v.3)
+
+    split : (r : Refusal) → AlwaysParts a k r → (T r ⊎ InTurn a k.cells Always r) ⊎ Comes_due (passed (Loop a) k).cells (λ j w. InTurn a k.cells (When j w)) r
+    split r (inl v) = inl (inr v)
+    split r (inr v) = inr v
+
+    back : (r : Refusal) → T r ⊎ Raises (Loop a) k.cells Always r → (T r ⊎ InTurn a k.cells Always r) ⊎ Comes_due (passed (Loop a) k).cells (λ j w. InTurn a k.cells (When j w)) r
+    back r (inl t) = inl (inl t)
+    back r (inr v) = split r (always_of a k r v)
+loop_first a ih n k (When j w) T f h =
+    same_first _ _ _ (λ r p. to r p) (λ r p. back r p)
+    (all_first k.dues (passed (Loop a) k).cells (passed a (entered k)).dues j w T (InTurn a k.cells (When j w))
+    (omega (arith, (passed_fits (length k.cells) a (entered k) (entered_fits k)).dues, length_merge turned_cell k.cells (passed a (entered k)).cells))
+    (λ e. omega (arith, may_length (passed (Loop a) k).cells j None e, length_merge turned_cell k.cells (passed a (entered k)).cells, f.cells, f.dues))
+    h (turn_due a ih k j w))
+  where
+    to : (r : Refusal) → T r ⊎ (May (passed (Loop a) k).cells j None × InTurn a k.cells (When j w) r) → T r ⊎ Raises (Loop a) k.cells (When j w) r
+    to r (inl t) = inl t
+    to r (inr v) = inr (kept_to a k j w r v.0 v.1)
+
+    back : (r : Refusal) → T r ⊎ Raises (Loop a) k.cells (When j w) r → T r ⊎ (May (passed (Loop a) k).cells j None × InTurn a k.cells (When j w) r)
+    back r (inl t) = inl t
+    back r (inr v) = inr (kept_of a k j w r v)
+
+-- ---- any flow
+
+known_same : (k m : Known) (c : Cause) → k.dues ≡ m.dues → k.found ≡ m.found → known_of k c ≡ known_of m c
+known_same k m Always d f = f
+known_same k m (When i v) d f = ap (λ (w : List Due). asked_at w i v) d
+
+pub collects : (f : Flow (List Act)) → Collects f
+collects Skip n k c T f h = same_first T _ _ (λ r t. inl t) (λ r p. by r p) h
+  where
+    by : (r : Refusal) → T r ⊎ Raises Skip k.cells c r → T r
+    by r (inl t) = t
+    by r (inr v) = absurd v.hits
+collects (Do acts) n k c T f h =
+    same_first _ _ _ (λ r p. alone_to acts (Do acts) (refl, refl) k.cells c T r p) (λ r p. alone_of acts (Do acts) (λ es e q. q) k.cells c T r p) (acts_first n acts k c T f h)
+collects (Stop acts) n k c T f h =
+    subst (λ (v : Option Refusal). IsFirst (λ r. T r ⊎ Raises (Stop acts) k.cells c r) v) (known_same (pass_acts acts k) (stopped (pass_acts acts k)) c refl refl)
+    (same_first _ _ _ (λ r p. alone_to acts (Stop acts) (refl, refl) k.cells c T r p) (λ r p. alone_of acts (Stop acts) (λ es e q. q) k.cells c T r p) (acts_first n acts k c T f h))
+collects (Then a b) n k c T f h =
+    same_first _ _ _ (λ r p. then_to a b k c T r p) (λ r p. then_of a b k c T r p)
+    (collects b n (passed a k) c (λ r. T r ⊎ Raises a k.cells c r) (passed_fits n a k f) (collects a n k c T f h))
+collects (Either a b) n k c T f h =
+    let side = with_cells k.cells (passed a k) in
+    let one = subst (λ (v : Option Refusal). IsFirst (λ r. T r ⊎ Raises a k.cells c r) v) (known_same (passed a k) side c refl refl) (collects a n k c T f h) in
+    let two = collects b n side c (λ r. T r ⊎ Raises a k.cells c r) (record { cells = f.cells; dues = (passed_fits n a k f).dues }) one in
+    subst (λ (v : Option Refusal). IsFirst (λ r. T r ⊎ Raises (Either a b) k.cells c r) v) (known_same (passed b side) (passed (Either a b) k) c refl refl)
+    (same_first _ _ _ (λ r p. either_to a b k.cells c T r p) (λ r p. either_of a b k.cells c T r p) two)
+collects (Loop a) n k c T f h = loop_first a (collects a) n k c T f h

@@ -1,0 +1,12 @@
+pub mod Stacks
+pub mod ListLemmas
+pub mod CellLemmas
+pub mod DueLemmas
+pub mod Traces
+pub mod Seen
+pub mod Firsts
+pub mod Exactness
+pub mod Owed
+pub mod Collects
+pub mod Reading
+pub mod Refusals

@@ -1,0 +1,7 @@
+-- what the contract rests on
+pub mod Plans
+pub mod Refused
+-- what the functions inside promise each other
+pub mod Lists
+pub mod Cells
+pub mod Passes

@@ -1,0 +1,4 @@
+pub mod MappedLemmas
+pub mod CarriedLemmas
+pub mod Levels
+pub mod OpenedLemmas
