@@ -13,8 +13,9 @@ use Rattle.hv_words.specs.Taken.{AllFit, AreNew, Form, Item, Setting, Word, dash
 use Rattle.hv_words.specs.Taken as taken
 use Rattle.hv_words.specs.Settings.{left_of}
 use Rattle.hv_words.specs.Reading.{app_by}
-use Rattle.hv_words.proofs.Rules.{fault_is, flag_full, full_of, full_rules, is_name, long_is, option_by_id, option_by_long, option_full, setting_by, shape_by, whole_app}
-use Rattle.hv_words.proofs.Walks.{IsPlain, Known, after, at, flag_found, is_named, items_fault, known_more, long_flag, named_word, option_found, option_step, flag_step, or_else-assoc, or_else-nil, over, plain_number, row_added, row_of, settled_option, value_fault, waits, walk_is, with_flag, with_option}
+use Rattle.hv_words.specs.Rows.{is_name, is_named, setting_by}
+use Rattle.hv_words.proofs.Rules.{fault_is, flag_full, full_of, full_rules, long_is, option_by_id, option_by_long, option_full, shape_by, whole_app}
+use Rattle.hv_words.proofs.Walks.{IsPlain, Known, after, at, flag_found, items_fault, known_more, long_flag, named_word, option_found, option_step, flag_step, or_else-assoc, or_else-nil, over, plain_number, row_added, row_of, settled_option, value_fault, waits, walk_is, with_flag, with_option}
 
 -- ---- one word
 

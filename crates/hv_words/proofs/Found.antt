@@ -12,8 +12,9 @@ use Rattle.hv_words.specs.Taken.{AllFit, AreNew, Form, Item, Setting, Word, dash
 use Rattle.hv_words.specs.Taken as taken
 use Rattle.hv_words.specs.Settings.{flag_text, left_of}
 use Rattle.hv_words.specs.Reading.{app_by}
+use Rattle.hv_words.specs.Rows.{is_named}
 use Rattle.hv_words.proofs.Rules.{flag_full, full_of, full_rules, matches_are, option_full, same_word, turned}
-use Rattle.hv_words.proofs.Walks.{after, at, flag_found, is_named, not_there, option_found, over, row_of, rows_are, walk_is}
+use Rattle.hv_words.proofs.Walks.{after, at, flag_found, not_there, option_found, over, row_of, rows_are, walk_is}
 use Rattle.hv_words.proofs.Walks as walks
 
 -- ---- the row of a name

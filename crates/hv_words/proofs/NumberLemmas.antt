@@ -1,14 +1,18 @@
 -- What digits write is what std and clap read.
-use Rattle.std.proofs.Common.{◌≡◌, ◌∙◌, ◌&&◌, ◌<◌, ◌≤◌, ◌≢◌, ◌^◌, ◌+◌, ◌-◌, ℕ, zero, suc, true, [], ◌∷◌, length, slice_index, sym, subst, ap, ap₂, refl, arith}
-use Rattle.std.specs.Prelude.{Result, Ok, nat_le, nat_lt}
+use Rattle.std.proofs.Common.{◌≡◌, ◌∙◌, ◌&&◌, ◌<◌, ◌≤◌, ◌≢◌, ◌^◌, ◌+◌, ◌-◌, ℕ, Bool, zero, suc, true, false, cond, [], ◌∷◌, length, slice_index, sym, subst, ap, ap₂, refl, arith}
+use Rattle.std.specs.Prelude.{Option, Some, None, Result, Ok, Err, nat_le, nat_lt}
 use Rattle.std.specs.List.{list_all}
 use Rattle.std.specs.Char.{digit_value}
 use Rattle.std.specs.Str.Parse.{AllDigits, ParsesUnsigned, digits_value, without_leading_plus}
 use Rattle.std.proofs.lemmas.Bool.{leb-true, le-leb, lt-ltb}
-use Rattle.std.proofs.lemmas.Str.Parse.{IsDigitsTest, IsNumeralModel, WeighsDigits, numerals_by_weight, parse_gives, digit_from_value, without_leading_plus_none}
+use Rattle.std.proofs.lemmas.Str.Parse.{IsDigitsTest, IsNumeralModel, WeighsDigits, numerals_by_weight, parse_digits, parse_gives, digit_from_value, without_leading_plus_none}
+use Rattle.std.proofs.lemmas.Result.{OkIff-at_ok}
 use Rattle.clap.specs.ValueTests.{is_numeral, is_unsigned_in}
 use Rattle.clap.proofs.WalkLemmas.{both}
-use Rattle.hv_words.specs.Taken.{Word, is_digit, is_number, number_of}
+use Rattle.hv_words.specs.Taken.{Counts, Word, is_digit, is_number, number_of}
+use Rattle.hv_words.specs.Telling.{count_of, number_in}
+use Rattle.hv_words.specs.declared.subcommand.Positional.{Positional}
+use Rattle.hv_words.specs.declared.subcommand.Positional.TheVariants.{File, Number}
 
 abbrev pub AreDigits : Word → Type 0
 AreDigits word = list_all is_digit word ≡ true
@@ -100,3 +104,55 @@ first_digit d ds e =
     let m = both (is_digit d) (list_all is_digit ds) k.1 in
     let n = both (nat_le 48 d) (nat_le d 57) m.0 in
     (leb-true 48 d n.0, leb-true d 57 n.1)
+
+-- ---- the number of a positional
+
+abbrev passes : ℕ → ℕ → Word → Bool
+passes least most word = is_number word && (nat_le least (number_of word) && nat_le (number_of word) most)
+
+number_passes : (least most : ℕ) (word : Word) → is_number word ≡ true → least ≤ number_of word → number_of word ≤ most → passes least most word ≡ true
+number_passes least most word number low high =
+    ap₂ (λ a b. a && b) number (ap₂ (λ a b. a && b) (le-leb least (number_of word) low) (le-leb (number_of word) most high))
+
+pub counted : (p : Positional) (word : Word) (n : ℕ) → Counts p word n → count_of p word ≡ Some n
+counted File word n h = ap (λ k. Some k) (sym h)
+counted (Number least most) word n h =
+    let low = subst (λ k. least ≤ k) h.1 h.2 in
+    let high = subst (λ k. k ≤ most) h.1 h.3 in
+    rw (number_passes least most word h.0 low high) (ap (λ k. Some k) (sym h.1))
+
+pub counts : (p : Positional) (word : Word) (n : ℕ) → count_of p word ≡ Some n → Counts p word n
+counts File word n e =
+    let is : 0 ≡ n = cc in
+    sym is
+counts (Number least most) word n e = go (passes least most word) refl e
+  where
+    go : (b : Bool) → passes least most word ≡ b → cond b (Some (number_of word)) None ≡ Some n → Counts (Number least most) word n
+    go true h k =
+        let is : number_of word ≡ n = cc in
+        let parts = both (is_number word) (nat_le least (number_of word) && nat_le (number_of word) most) h in
+        let range = both (nat_le least (number_of word)) (nat_le (number_of word) most) parts.1 in
+        (parts.0, sym is, subst (λ m. least ≤ m) is (leb-true least (number_of word) range.0), subst (λ m. m ≤ most) is (leb-true (number_of word) most range.1))
+    go false h k = absurd cc
+
+-- the number that is read of a number word
+pub parsed : {E : Type 0} (word : Word) (n : ℕ) (r : Result ℕ E) → is_number word ≡ true → ParsesUnsigned 64 10 word r → r ≡ Ok n → n ≡ number_of word
+parsed word n r number h is = (OkIff-at_ok r _ (number_of word) n (parse_digits own 64 word r h (number_parts word number).1) is).1
+
+pub some_in : (least most : ℕ) (word : Word) (n : ℕ) → is_number word ≡ true → n ≡ number_of word → least ≤ n → n ≤ most → Some n ≡ number_in least most word
+some_in least most word n number is low high = sym (counted (Number least most) word n (number, is, low, high))
+
+pub none_in : (least most : ℕ) (word : Word) → (least ≤ number_of word → number_of word ≤ most → ⊥) → None ≡ number_in least most word
+none_in least most word none = go (passes least most word) refl
+  where
+    go : (b : Bool) → passes least most word ≡ b → None ≡ cond b (Some (number_of word)) None
+    go false h = refl
+    go true h =
+        let parts = both (is_number word) (nat_le least (number_of word) && nat_le (number_of word) most) h in
+        let range = both (nat_le least (number_of word)) (nat_le (number_of word) most) parts.1 in
+        absurd (none (leb-true least (number_of word) range.0) (leb-true (number_of word) most range.1))
+
+-- a number word that isn't read has more than 64 bits
+pub none_read : {E : Type 0} (least most : ℕ) (word : Word) (e : E) → is_number word ≡ true → most < 2 ^ 64 → ParsesUnsigned 64 10 word (Err e) → None ≡ number_in least most word
+none_read least most word e number room h = none_in least most word
+    (λ low high. parse_digits own 64 word (Err e) h (number_parts word number).1 ((number_parts word number).0, omega (arith, room, high)))

@@ -1,10 +1,9 @@
 -- The items of a line are the only ones, and so is what they ask for.
-use Rattle.std.proofs.Common.{◌≡◌, ◌∙◌, ℕ, Bool, List, [], ◌∷◌, map, sym, subst, ap, refl}
+use Rattle.std.proofs.Common.{◌≡◌, ◌∙◌, ℕ, Bool, List, [], ◌∷◌, sym, subst, ap, ap₂, refl}
 use Rattle.std.specs.Prelude.{Option, Some, None}
-use Rattle.hv_words.specs.Taken.{AllFit, Asked, Asks, Entered, Form, Item, SetsEach, SetsTo, Setting, Taken, Word, check, dashed, entered, flag, has_flag, option, plain, positional, run, show, spelled, value_of}
-use Rattle.hv_words.specs.Line.{form, subcommand_named}
-use Rattle.hv_words.specs.declared.subcommand.Subcommand.{Subcommand}
-use Rattle.hv_words.specs.declared.subcommand.Subcommand.TheVariants.{Check, Show, Plain, Run}
+use Rattle.hv_words.specs.Taken.{AllFit, Asked, Counts, Form, Item, Said, Says, SetsEach, SetsTo, Setting, Taken, Tells, Word, asked_by, dashed, flag, option, positional, row_named, spelled, value_of}
+use Rattle.hv_words.specs.declared.subcommand.Positional.{Positional}
+use Rattle.hv_words.specs.declared.subcommand.Positional.TheVariants.{File, Number}
 
 -- ---- a list of words is cut into items in one way
 
@@ -59,85 +58,68 @@ items_once f (flag n ∷ xs) (option m v ∷ ys) a b e =
     let there = b.0.0 in
     absurd cc
 
--- ---- names
-
-abbrev pub subcommand_of : Asked → Subcommand
-subcommand_of (check file) = Check
-subcommand_of (show file) = Show
-subcommand_of (plain file steps trace) = Plain
-subcommand_of (run file steps trace) = Run
-
-pub form_is : (a : Asked) → form (subcommand_of a) ≡ (entered a).form
-form_is (check file) = refl
-form_is (show file) = refl
-form_is (plain file steps trace) = refl
-form_is (run file steps trace) = refl
-
-pub name_is : (s : Subcommand) → subcommand_named (form s).name ≡ Some s
-name_is Check = refl
-name_is Show = refl
-name_is Plain = refl
-name_is Run = refl
-
-pub named_asked : (a : Asked) → subcommand_named (entered a).form.name ≡ Some (subcommand_of a)
-named_asked a = ap (λ f. subcommand_named f.name) (sym (form_is a)) ∙ name_is (subcommand_of a)
-
--- ---- one order
-
--- what is entered is one order
-entered_once : (a b : Asked) → Some (subcommand_of a) ≡ Some (subcommand_of b) → entered a ≡ entered b → a ≡ b
-entered_once (check f) (check g) s e = ap (λ d. check d.file) e
-entered_once (show f) (show g) s e = ap (λ d. show d.file) e
-entered_once (plain f n t) (plain g m u) s e =
-    let file : f ≡ g = ap (λ d. d.file) e in
-    let numbers : n ∷ [] ≡ m ∷ [] = ap (λ d. d.numbers) e in
-    let marks : t ∷ [] ≡ u ∷ [] = ap (λ d. d.marks) e in
-    cc
-entered_once (run f n t) (run g m u) s e =
-    let file : f ≡ g = ap (λ d. d.file) e in
-    let numbers : n ∷ [] ≡ m ∷ [] = ap (λ d. d.numbers) e in
-    let marks : t ∷ [] ≡ u ∷ [] = ap (λ d. d.marks) e in
-    cc
-entered_once a b s e = absurd cc
+-- ---- what the words say is one thing
 
 sets_once : (setting : Setting) (o : Option Word) (n m : ℕ) → SetsTo setting o n → SetsTo setting o m → n ≡ m
-sets_once setting None n m a b = a ∙ sym b
+sets_once setting None n m a b =
+    let same : Some n ≡ Some m = sym a ∙ b in
+    cc
 sets_once setting (Some value) n m a b = a.0 ∙ sym b.0
 
-numbers_once : (options : List Setting) (items : List Item) (ns ms : List ℕ) → SetsEach options items ns → SetsEach options items ms → ns ≡ ms
+numbers_once : (options : List Setting) (items : List Item) (ns ms : List (Word × ℕ)) → SetsEach options items ns → SetsEach options items ms → ns ≡ ms
 numbers_once [] items [] [] a b = refl
 numbers_once [] items (n ∷ ns) ms a b = absurd a
 numbers_once [] items [] (m ∷ ms) a b = absurd b
 numbers_once (o ∷ options) items [] ms a b = absurd a
 numbers_once (o ∷ options) items (n ∷ ns) [] a b = absurd b
-numbers_once (o ∷ options) items (n ∷ ns) (m ∷ ms) a b =
-    let first : n ≡ m = sets_once o (value_of (dashed o.name) items) n m a.0 b.0 in
-    let rest = numbers_once options items ns ms a.1 b.1 in
-    cc
+numbers_once (o ∷ options) items ((n, k) ∷ ns) ((m, l) ∷ ms) a b =
+    ap₂ (λ e es. e ∷ es)
+    (ap₂ (λ (w : Word) (i : ℕ). (w, i)) (a.0 ∙ sym b.0) (sets_once o (value_of (dashed o.name) items) k l a.1 b.1))
+    (numbers_once options items ns ms a.2 b.2)
 
-same_file : (w v : Word) (ws : List Word) → ws ≡ w ∷ [] → ws ≡ v ∷ [] → w ≡ v
-same_file w v ws a b = cc
+counts_once : (p : Positional) (word : Word) (n m : ℕ) → Counts p word n → Counts p word m → n ≡ m
+counts_once File word n m a b = a ∙ sym b
+counts_once (Number least most) word n m a b = a.1 ∙ sym b.1
 
-made : Form → Word → List ℕ → List Bool → Entered
-made f file numbers marks = record { form = f; file = file; numbers = numbers; marks = marks }
+same_word : (w v : Word) (ws : List Word) → ws ≡ w ∷ [] → ws ≡ v ∷ [] → w ≡ v
+same_word w v ws a b = cc
 
-asks_once : (items : List Item) (d e : Entered) → d.form ≡ e.form → Asks items d → Asks items e → d ≡ e
+made : Word → ℕ → List (Word × ℕ) → List (Word × Bool) → Said
+made word count numbers marks = record { word = word; count = count; numbers = numbers; marks = marks }
+
+tells_once : (f : Form) (items : List Item) (d e : Said) → Tells f items d → Tells f items e → d ≡ e
 unfolding made
-asks_once items d e forms p q =
-    let file : d.file ≡ e.file = same_file d.file e.file _ p.0 q.0 in
-    let numbers : d.numbers ≡ e.numbers = numbers_once d.form.options items d.numbers e.numbers p.1 (subst (λ f. SetsEach f.options items e.numbers) (sym forms) q.1) in
-    let marks : d.marks ≡ e.marks = p.2 ∙ (ap (λ f. map (λ name. has_flag (dashed name) items) f.flags) forms ∙ sym q.2) in
-    let all : made d.form d.file d.numbers d.marks ≡ made e.form e.file e.numbers e.marks = cc in
+tells_once f items d e p q =
+    let word : d.word ≡ e.word = same_word d.word e.word _ p.0 q.0 in
+    let count : d.count ≡ e.count = counts_once f.takes d.word d.count e.count p.1 (subst (λ w. Counts f.takes w e.count) (sym word) q.1) in
+    let numbers : d.numbers ≡ e.numbers = numbers_once f.options items d.numbers e.numbers p.2 q.2 in
+    let marks : d.marks ≡ e.marks = p.3 ∙ sym q.3 in
+    let all : made d.word d.count d.numbers d.marks ≡ made e.word e.count e.numbers e.marks = cc in
     all
+
+says_once : (f : Form) (words : List Word) (d e : Said) → Says f words d → Says f words e → d ≡ e
+says_once f words d e p q =
+    let items : p.0 ≡ q.0 = items_once f p.0 q.0 p.2 q.2 (sym p.1 ∙ q.1) in
+    tells_once f p.0 d e p.4 (subst (λ xs. Tells f xs e) (sym items) q.4)
+
+-- ---- one order
+
+-- what is taken is said for the row of the name
+pub said_for : (words rest : List Word) (name : Word) (f : Form) (a : Asked) → words ≡ name ∷ rest → row_named name ≡ Some f → (t : Taken words a)
+    → Says f rest t.said × (a ≡ asked_by f.subcommand t.said)
+said_for words rest name f a begins named t =
+    let both : t.name ∷ t.rest ≡ name ∷ rest = sym t.begins ∙ begins in
+    let names : t.name ≡ name = cc in
+    let rests : t.rest ≡ rest = cc in
+    let rows : Some t.row ≡ Some f = sym t.named ∙ ap row_named names ∙ named in
+    let row : t.row ≡ f = cc in (
+      subst (λ g. Says g rest t.said) row (subst (λ l. Says t.row l t.said) rests t.says),
+      t.is ∙ ap (λ (g : Form). asked_by g.subcommand t.said) row,
+    )
 
 -- words are taken in one way
 pub taken_once : (words : List Word) (a b : Asked) → Taken words a → Taken words b → a ≡ b
 taken_once words a b p q =
-    let names : (entered a).form.name ≡ (entered b).form.name = cc in
-    let subs : Some (subcommand_of a) ≡ Some (subcommand_of b) = sym (named_asked a) ∙ ap subcommand_named names ∙ named_asked b in
-    let sub : subcommand_of a ≡ subcommand_of b = cc in
-    let forms : (entered a).form ≡ (entered b).form = sym (form_is a) ∙ ap form sub ∙ form_is b in
-    let spells : spelled p.0 ≡ spelled q.0 = cc in
-    let fits = subst (λ f. AllFit f q.0) (sym forms) q.2 in
-    let items = items_once (entered a).form p.0 q.0 p.2 fits spells in
-    entered_once a b subs (asks_once p.0 (entered a) (entered b) forms p.4 (subst (λ xs. Asks xs (entered b)) (sym items) q.4))
+    let other = said_for words p.rest p.name p.row b p.begins p.named q in
+    let said : p.said ≡ q.said = says_once p.row p.rest p.said q.said p.says other.0 in
+    p.is ∙ ap (asked_by p.row.subcommand) said ∙ sym other.1

@@ -6,9 +6,10 @@ use Rattle.clap.specs.Kinds.{Kinds, or_else}
 use Rattle.clap.specs.ValueTests.{is_unsigned_in}
 use Rattle.hv_words.specs.Taken.{AllFit, AreNew, Form, Item, Sets, SetsEach, SetsTo, Setting, Word, dashed, flag, is_among, is_number, option, positional, value_of}
 use Rattle.hv_words.specs.Settings.{IsInRange}
+use Rattle.hv_words.specs.Rows.{is_named, setting_by}
 use Rattle.hv_words.proofs.NumberLemmas.{from_range, in_range}
-use Rattle.hv_words.proofs.Rules.{same_bytes, same_word, setting_by}
-use Rattle.hv_words.proofs.Walks.{is_named, items_fault, option_found, value_fault}
+use Rattle.hv_words.proofs.Rules.{same_bytes, same_word}
+use Rattle.hv_words.proofs.Walks.{items_fault, option_found, value_fault}
 
 -- each option's value, if it has one, is in its range
 abbrev pub InRanges : List Setting → List Item → Type 0
@@ -116,17 +117,17 @@ module _ (f : Form) (named : is_named f ≡ true) where
 
 -- ---- numbers that are asked for
 
-found_sets : (options : List Setting) (items : List Item) (ns : List ℕ) (name : Word) (o : Setting) → SetsEach options items ns → setting_by options name ≡ Some o
+found_sets : (options : List Setting) (items : List Item) (ns : List (Word × ℕ)) (name : Word) (o : Setting) → SetsEach options items ns → setting_by options name ≡ Some o
     → (n : ℕ) × Sets o items n
 found_sets [] items ns name o sets first = absurd cc
 found_sets (x ∷ options) items [] name o sets first = absurd sets
-found_sets (x ∷ options) items (n ∷ ns) name o sets first = go (bytes_eq x.name name) refl (found_sets options items ns name o sets.1)
+found_sets (x ∷ options) items (n ∷ ns) name o sets first = go (bytes_eq x.name name) refl (found_sets options items ns name o sets.2)
   where
     go : (b : Bool) → bytes_eq x.name name ≡ b → (setting_by options name ≡ Some o → (m : ℕ) × Sets o items m) → (m : ℕ) × Sets o items m
     go true h more =
         let e = rw h at first in
         let is : x ≡ o = cc in
-        (n, subst (λ s. Sets s items n) is sets.0)
+        (n.1, subst (λ s. Sets s items n.1) is sets.1)
     go false h more =
         let e = rw h at first in
         more e
@@ -135,7 +136,7 @@ range_of : (o : Setting) (value : Option Word) (n : ℕ) → NumberIf value → 
 range_of o None n number sets = tt
 range_of o (Some v) n number sets = (number, subst (λ k. o.least ≤ k) sets.0 sets.1, subst (λ k. k ≤ o.most) sets.0 sets.2)
 
-pub ranges_of : (f : Form) (items : List Item) (ns : List ℕ) → AllFit f items → SetsEach f.options items ns → InRanges f.options items
+pub ranges_of : (f : Form) (items : List Item) (ns : List (Word × ℕ)) → AllFit f items → SetsEach f.options items ns → InRanges f.options items
 ranges_of f items ns fits sets = λ o first.
     let s = found_sets f.options items ns o.name o sets first in
     range_of o (value_of (dashed o.name) items) s.0 (number_if f (dashed o.name) items fits) s.1

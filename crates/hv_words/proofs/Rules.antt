@@ -12,6 +12,7 @@ use Rattle.clap.specs.Simple.{App, Shape, built, filled, filled_from, matches_of
 use Rattle.clap.proofs.SimpleLemmas.{is_false}
 use Rattle.clap.proofs.WalkLemmas.{both}
 use Rattle.hv_words.specs.Taken.{Form, Setting, Word, dashed, is_among}
+use Rattle.hv_words.specs.Rows.{Names, is_name, setting_by}
 use Rattle.hv_words.specs.Reading.{app_by, bare_app, flag_rule, option_rule, rules_of, with_rules}
 
 -- ---- words
@@ -24,10 +25,6 @@ same_word a b e = (bytes_eq-Decides a b).0 e
 
 pub turned : (a b : Word) → bytes_eq a b ≡ bytes_eq b a
 turned a b = nat_list_eq_equiv.symm a b
-
--- a name that stands behind two hyphens is read as it stands
-abbrev pub is_name : Word → Bool
-is_name name = nat_lt 0 (length name) && (not (has_byte 61 name) && bytes_eq (before_first (λ x. x == 61) name) name)
 
 pub long_is : (name : Word) → is_name name ≡ true → (long_of (dashed name) ≡ Some (name, None)) × (bytes_eq (dashed name) (45 ∷ 45 ∷ []) ≡ false)
 long_is [] e = absurd (true≢false (sym e))
@@ -114,9 +111,6 @@ matches_are f words =
 
 -- ---- the arguments by their names
 
-abbrev pub setting_by : List Setting → Word → Option Setting
-setting_by options name = find (λ o. bytes_eq o.name name) options
-
 pub option_by_long : (options : List Setting) (flags : List Word) (name : Word) (o : Setting) → setting_by options name ≡ Some o
     → arg_by_long (full_of options flags) name ≡ Some (option_full o)
 option_by_long [] flags name o e = absurd cc
@@ -172,9 +166,6 @@ flag_by_long (x ∷ options) flags name e known = go (λ none. flag_by_long opti
         rw h (more rest)
 
 -- ---- words of items, by the table
-
-abbrev pub Names : List Setting → Bool
-Names options = list_all (λ o. is_name o.name && nat_lt o.most (2 ^ 64)) options
 
 -- the option that a word gives
 pub record OptionAt (options : List Setting) (word : Word) : Type 0 where

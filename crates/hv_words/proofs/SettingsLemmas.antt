@@ -1,11 +1,12 @@
 -- From what clap found to the settings.
-use Rattle.std.proofs.Common.{◌≡◌, ◌∙◌, ◌&&◌, ◌≤◌, ◌^◌, ◌<◌, ℕ, Bool, true, false, not, List, [], ◌∷◌, map, sym, subst, ap, refl, arith, inl, inr, true≢false, ltb-true}
-use Rattle.std.specs.Prelude.{◌==◌, Option, Some, None, unwrap_or, Result, Ok, Err}
-use Rattle.std.specs.List.{list_all}
-use Rattle.std.specs.Option.{option_map_or}
+use Rattle.std.proofs.Common.{◌≡◌, ◌∙◌, ◌&&◌, ◌≤◌, ◌^◌, ◌<◌, ℕ, Bool, true, false, not, List, [], ◌∷◌, ◌++◌, append-nil, drop, map, length, sym, subst, ap, ap₂, refl, arith, inl, inr, true≢false, ltb-true, zero, suc}
+use Rattle.std.specs.Prelude.{◌==◌, Option, Some, None, find, Result, Ok, Err}
+use Rattle.std.specs.List.{list_all, slice_index_or}
+use Rattle.std.specs.Option.{option_map_or, option_or}
 use Rattle.std.specs.Str.{bytes_eq}
 use Rattle.std.specs.Str.Parse.{ParsesUnsigned}
 use Rattle.std.proofs.lemmas.Bool.{eqb-true}
+use Rattle.std.proofs.lemmas.List.{drop_all}
 use Rattle.clap.specs.Walk.{one_of}
 use Rattle.clap.specs.Simple.{App, HasMatchesOf, is_simple, matches_of}
 use Rattle.clap.specs.Matches.{ReadsOne, found_of}
@@ -17,49 +18,52 @@ use Rattle.clap.specs.declared.error.kind.ErrorKind.TheVariants.{OutOfMemory}
 use Rattle.clap.proofs.OnLiterals.{clap_on_literals}
 use Rattle.clap.proofs.SimpleLemmas.{is_false}
 use Rattle.clap.proofs.WalkLemmas.{both, one_text-rows}
-use Rattle.hv_words.specs.Taken.{AllFit, AreNew, Form, Item, Setting, SetsEach, SetsTo, Word, dashed, has_flag, is_among, is_number, number_of, option_words, value_of}
-use Rattle.hv_words.specs.Line.{form}
+use Rattle.hv_words.specs.Taken.{AllFit, AreNew, Form, Item, Setting, SetsEach, SetsTo, Word, dashed, has_flag, is_among, is_number, mark_of, number_of, option_words, row_named, table, value_of}
 use Rattle.hv_words.specs.Settings.{AreMarksOf, AreNumbersOf, HasFlags, HasOptions, HasSettings, IsInRange, IsNumberOf, left_of, text_at}
 use Rattle.hv_words.specs.Reading.{app_by, end_by}
 use Rattle.hv_words.specs.declared.order.WordsEnd.{WordsEnd}
 use Rattle.hv_words.specs.declared.order.WordsEnd.TheVariants.{Usage, NoMemory}
 use Rattle.hv_words.specs.declared.settings.Settings.{Settings}
-use Rattle.hv_words.specs.declared.subcommand.Subcommand.{Subcommand}
-use Rattle.hv_words.specs.declared.subcommand.Subcommand.TheVariants.{Check, Show, Plain, Run}
+use Rattle.hv_words.specs.Rows.{Names, is_apart, is_flag, is_named, is_own, is_same_number, is_same_setting, is_sound, setting_by}
 use Rattle.hv_words.proofs.Faulted.{fault_of_items}
 use Rattle.hv_words.proofs.Found.{flag_read, option_read}
 use Rattle.hv_words.proofs.NumberLemmas.{number_read}
 use Rattle.hv_words.proofs.Ranges.{InRanges, in_range_without_fault, no_fault_in_range, ranges_of}
-use Rattle.hv_words.proofs.Rules.{Names, same_word, setting_by}
-use Rattle.hv_words.proofs.Walks.{is_named}
+use Rattle.hv_words.proofs.Rules.{same_word}
 
 -- ---- tests of a row of the table
-
--- the option is the first one of its name, and no flag has its name
-abbrev pub is_own : Form → Setting → Bool
-is_own f o =
-    option_map_or (λ p. p.least == o.least && (p.most == o.most && p.fallback == o.fallback)) (setting_by f.options o.name) false
-    && (not (is_among o.name f.flags) && is_among (dashed o.name) (option_words f))
-
--- the flag is one of the row, and no option has its name
-abbrev pub is_flag : Form → Word → Bool
-is_flag f name = not (is_among (dashed name) (option_words f)) && is_among name f.flags
-
-abbrev pub is_apart : Form → Bool
-is_apart f = list_all (is_own f) f.options && list_all (is_flag f) f.flags
 
 pub record IsSound (f : Form) : Type 0 where
   pub named : is_named f ≡ true
   pub apart : is_apart f ≡ true
   pub free : is_simple_and_free (app_by f) ≡ true
 
+pub sound_parts : (f : Form) → is_sound f ≡ true → IsSound f
+sound_parts f e =
+    let k = both (is_named f) (is_apart f && is_simple_and_free (app_by f)) e in
+    let m = both (is_apart f) (is_simple_and_free (app_by f)) k.1 in
+    record { named = k.0; apart = m.0; free = m.1 }
+
 -- every row of the table passes
-pub sound : (s : Subcommand) → IsSound (form s)
+rows_sound : list_all is_sound table ≡ true
 unfolding app_by clap_on_literals
-sound Check = record { named = refl; apart = refl; free = refl }
-sound Show = record { named = refl; apart = refl; free = refl }
-sound Plain = record { named = refl; apart = refl; free = refl }
-sound Run = record { named = refl; apart = refl; free = refl }
+rows_sound = refl
+
+found_passes : (p q : Form → Bool) (rows : List Form) (f : Form) → find p rows ≡ Some f → list_all q rows ≡ true → q f ≡ true
+found_passes p q [] f e all = absurd cc
+found_passes p q (x ∷ rows) f e all = go (p x) refl (found_passes p q rows f)
+  where
+    go : (b : Bool) → p x ≡ b → (find p rows ≡ Some f → list_all q rows ≡ true → q f ≡ true) → q f ≡ true
+    go true h more =
+        let found = rw h at e in
+        let is : x ≡ f = cc in
+        ap q (sym is) ∙ (both _ _ all).0
+    go false h more =
+        let rest = rw h at e in
+        more rest (both _ _ all).1
+
+pub row_sound : (name : Word) (f : Form) → row_named name ≡ Some f → is_sound f ≡ true
+row_sound name f e = found_passes (λ row. bytes_eq name row.name) is_sound table f e rows_sound
 
 found_named : (options : List Setting) (name : Word) (p : Setting) → setting_by options name ≡ Some p → bytes_eq p.name name ≡ true
 found_named [] name p e = absurd cc
@@ -74,15 +78,21 @@ found_named (x ∷ options) name p e = go (bytes_eq x.name name) refl (found_nam
         let rest = rw h at e in
         more rest
 
-made : Word → ℕ → ℕ → ℕ → Setting
+made : Word → ℕ → ℕ → Option ℕ → Setting
 made name least most fallback = record { name = name; least = least; most = most; fallback = fallback }
+
+same_number : (a b : Option ℕ) → is_same_number a b ≡ true → a ≡ b
+same_number None None e = refl
+same_number (Some a) (Some b) e = ap (λ n. Some n) (eqb-true a b e)
+same_number None (Some b) e = absurd (true≢false (sym e))
+same_number (Some a) None e = absurd (true≢false (sym e))
 
 own_first : (f : Form) (o : Setting) → is_own f o ≡ true → setting_by f.options o.name ≡ Some o
 unfolding made
 own_first f o e = go (setting_by f.options o.name) refl (both _ _ e).0
   where
     go : (p : Option Setting) → setting_by f.options o.name ≡ p
-        → option_map_or (λ q. q.least == o.least && (q.most == o.most && q.fallback == o.fallback)) p false ≡ true → setting_by f.options o.name ≡ Some o
+        → option_map_or (λ q. is_same_setting q o) p false ≡ true → setting_by f.options o.name ≡ Some o
     go None h k = absurd (true≢false (sym k))
     go (Some p) h k =
         let parts = both _ _ k in
@@ -90,7 +100,7 @@ own_first f o e = go (setting_by f.options o.name) refl (both _ _ e).0
         let name = same_word p.name o.name (found_named f.options o.name p h) in
         let least = eqb-true p.least o.least parts.0 in
         let most = eqb-true p.most o.most more.0 in
-        let fallback = eqb-true p.fallback o.fallback more.1 in
+        let fallback = same_number p.fallback o.fallback more.1 in
         let is : made p.name p.least p.most p.fallback ≡ made o.name o.least o.most o.fallback = cc in
         h ∙ ap (λ s. Some s) is
 
@@ -158,33 +168,63 @@ module _ {E : Type 0} (gives : List ℕ → Result ℕ E → Type 0) (only : (u 
       let read : ◌≡◌ {A = Result ℕ E} (Err h.0) (Ok (number_of v)) = number_read v (Err h.0) number (only v (Err h.0) h.1) fits in
       absurd cc
 
-  pub number_is : (o : Setting) (text : Option Word) (one : Option ℕ) (n : ℕ) → (text ≡ None → one ≡ None)
-      → ((t : List ℕ) → text ≡ Some t → ReadsOne gives t one) → n ≡ unwrap_or one o.fallback → IsNumberOf o text n
-  number_is o None one n none value n_is = n_is ∙ ap (λ x. unwrap_or x o.fallback) (none refl)
-  number_is o (Some v) one n none value n_is = λ number fits. n_is ∙ ap (λ x. unwrap_or x o.fallback) (one_is v one number fits (value v refl))
+  pub number_is : (o : Setting) (text : Option Word) (one n : Option ℕ) → (text ≡ None → one ≡ None)
+      → ((t : List ℕ) → text ≡ Some t → ReadsOne gives t one) → n ≡ option_or one o.fallback → IsNumberOf o text n
+  number_is o None one n none value n_is = n_is ∙ ap (λ x. option_or x o.fallback) (none refl)
+  number_is o (Some v) one n none value n_is = λ number fits. n_is ∙ ap (λ x. option_or x o.fallback) (one_is v one number fits (value v refl))
 
-number_sets : (o : Setting) (text value : Option Word) (n : ℕ) → o.most < 2 ^ 64 → text ≡ value → IsInRange o value → IsNumberOf o text n → SetsTo o value n
-number_sets o text None n room is range number = subst (λ t. IsNumberOf o t n) is number
+bounded : (o : Setting) (options : List Setting) → Names (o ∷ options) ≡ true → o.most < 2 ^ 64
+bounded o options names = ltb-true o.most (2 ^ 64) (both _ _ (both _ _ names).0).1
+
+number_sets : (o : Setting) (text value : Option Word) (n : ℕ) → o.most < 2 ^ 64 → text ≡ value → IsInRange o value → IsNumberOf o text (Some n) → SetsTo o value n
+number_sets o text None n room is range number = sym (subst (λ t. IsNumberOf o t (Some n)) is number)
 number_sets o text (Some v) n room is range number =
-    let n_is : n ≡ number_of v = subst (λ t. IsNumberOf o t n) is number range.0 (omega (arith, room, range.2)) in
+    let some : Some n ≡ Some (number_of v) = subst (λ t. IsNumberOf o t (Some n)) is number range.0 (omega (arith, room, range.2)) in
+    let n_is : n ≡ number_of v = cc in
     (n_is, subst (λ k. o.least ≤ k) (sym n_is) range.1, subst (λ k. k ≤ o.most) (sym n_is) range.2)
 
-pub numbers_set : (s : Settings) (items : List Item) (options : List Setting) (ns : List ℕ) → Names options ≡ true → HasOptions s items options → AreNumbersOf s options ns
+pub numbers_set : (s : Settings) (items : List Item) (options : List Setting) (ns : List (Word × ℕ)) → Names options ≡ true → HasOptions s items options → AreNumbersOf s options ns
     → SetsEach options items ns
 numbers_set s items [] [] names has are = tt
 numbers_set s items [] (n ∷ ns) names has are = absurd are
 numbers_set s items (o ∷ options) [] names has are = absurd are
-numbers_set s items (o ∷ options) (n ∷ ns) names has are =
-    let k = both _ _ names in
-    let room = ltb-true o.most (2 ^ 64) (both _ _ k.0).1 in
-    (number_sets o (text_at s o.name) (value_of (dashed o.name) items) n room has.0.0 has.0.1 are.0, numbers_set s items options ns k.1 has.1 are.1)
+numbers_set s items (o ∷ options) (n ∷ ns) names has are = (
+  are.0,
+  number_sets o (text_at s o.name) (value_of (dashed o.name) items) n.1 (bounded o options names) has.0.0 has.0.1 are.1,
+  numbers_set s items options ns (both _ _ names).1 has.1 are.2,
+)
 
-pub marks_are : (s : Settings) (items : List Item) (flags : List Word) (marks : List Bool) → HasFlags s items flags → AreMarksOf s flags marks
-    → marks ≡ map (λ name. has_flag (dashed name) items) flags
+-- an option that has no number is not set
+number_lacks : (o : Setting) (text value : Option Word) (n : ℕ) → o.most < 2 ^ 64 → text ≡ value → IsInRange o value → SetsTo o value n → IsNumberOf o text None → ⊥
+number_lacks o text None n room is range sets none =
+    let bad : None ≡ Some n = subst (λ t. IsNumberOf o t None) is none ∙ sets in
+    absurd cc
+number_lacks o text (Some v) n room is range sets none =
+    let bad : None ≡ Some (number_of v) = subst (λ t. IsNumberOf o t None) is none range.0 (omega (arith, room, range.2)) in
+    absurd cc
+
+pub lacks_none : (s : Settings) (items : List Item) (options : List Setting) (ns : List (Word × ℕ)) → Names options ≡ true → HasOptions s items options → SetsEach options items ns
+    → (o : Setting) (k : ℕ) → k < length options → slice_index_or options k o ≡ o → IsNumberOf o (text_at s o.name) None → ⊥
+lacks_none s items [] ns names has sets o k lt place none = absurd (omega (arith, lt))
+lacks_none s items (x ∷ options) [] names has sets o k lt place none = absurd sets
+lacks_none s items (x ∷ options) (n ∷ ns) names has sets o zero lt place none =
+    number_lacks x (text_at s x.name) (value_of (dashed x.name) items) n.1 (bounded x options names) has.0.0 has.0.1 sets.1
+    (subst (λ p. IsNumberOf p (text_at s p.name) None) (sym place) none)
+lacks_none s items (x ∷ options) (n ∷ ns) names has sets o (suc k) lt place none =
+    lacks_none s items options ns (both _ _ names).1 has.1 sets.2 o k (omega (arith, lt)) place none
+
+pub marks_are : (s : Settings) (items : List Item) (flags : List Word) (marks : List (Word × Bool)) → HasFlags s items flags → AreMarksOf s flags marks
+    → marks ≡ map (mark_of items) flags
 marks_are s items [] [] has are = refl
 marks_are s items [] (m ∷ marks) has are = absurd are
 marks_are s items (name ∷ flags) [] has are = absurd are
-marks_are s items (name ∷ flags) (m ∷ marks) has are =
-    let first : m ≡ has_flag (dashed name) items = are.0 (has_flag (dashed name) items) has.0 in
-    let rest = marks_are s items flags marks has.1 are.1 in
-    cc
+marks_are s items (name ∷ flags) ((own, mark) ∷ marks) has are =
+    let first : mark ≡ has_flag (dashed name) items = are.1 (has_flag (dashed name) items) has.0 in
+    let rest = marks_are s items flags marks has.1 are.2 in
+    ap₂ (λ e es. e ∷ es) (ap₂ (λ n m. (n, m)) are.0 first) rest
+
+-- what is right for the rest makes the whole, and nothing is left
+pub all_gone : {X Y : Type 0} (P : List X → List Y → Type 0) (All : List Y → Type 0) (xs : List X) (i : ℕ) (ys : List Y) → length xs ≤ i → P [] []
+    → ((more : List Y) → P (drop i xs) more → All (ys ++ more)) → All ys
+all_gone P All xs i ys past none whole =
+    subst All (append-nil ys) (whole [] (subst (λ l. P l []) (sym (drop_all i xs past)) none))

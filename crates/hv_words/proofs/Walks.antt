@@ -14,8 +14,9 @@ use Rattle.clap.specs.declared.parser.matches.ValueSource.TheVariants.{CommandLi
 use Rattle.hv_words.specs.Taken.{AllFit, AreNew, Form, Item, Setting, Word, dashed, flag, is_among, is_number, positional}
 use Rattle.hv_words.specs.Taken as taken
 use Rattle.hv_words.specs.Settings.{left_of}
+use Rattle.hv_words.specs.Rows.{Names, is_name, is_named, setting_by}
 use Rattle.hv_words.proofs.NumberLemmas.{by_digit, first_digit}
-use Rattle.hv_words.proofs.Rules.{FlagAt, Names, OptionAt, flag_at, flag_by_long, flag_full, full_rules, is_name, long_is, no_option, option_at, option_by_id, option_by_long, option_full, same_bytes, setting_by, turned}
+use Rattle.hv_words.proofs.Rules.{FlagAt, OptionAt, flag_at, flag_by_long, flag_full, full_rules, long_is, no_option, option_at, option_by_id, option_by_long, option_full, same_bytes, turned}
 
 -- between two items
 abbrev pub at : Held → Walk
@@ -93,10 +94,6 @@ module _ (c : List Rule) where
       flag_word c h (dashed name) name (flag_full name) l.1 l.0 long refl
 
 -- ---- a row of the table
-
--- its names are read as they stand
-abbrev pub is_named : Form → Bool
-is_named f = Names f.options && list_all is_name f.flags
 
 -- the rows of items, one for each option and each flag
 abbrev pub row_of : Text → Text → Row

@@ -5,3 +5,5 @@ pub mod Answers
 pub mod Line
 pub mod Settings
 pub mod Reading
+pub mod Rows
+pub mod Telling

@@ -1,11 +1,8 @@
 -- How the words are read one by one, for the functions inside.
 use Rattle.std.specs.Prelude.{◌≡◌, ⊤, Result, Ok, Err, Bool, true, false, List, [], ◌∷◌, ◌++◌, map}
 use Rattle.std.specs.Prelude.{Option, Some, None, option_map, option_and_then, if◌then◌else◌}
-use Rattle.std.specs.Prelude.{find}
-use Rattle.std.specs.Str.{bytes_eq}
 use Rattle.clap.specs.Lexer.{strip_byte}
 use Rattle.hv_words.specs.Taken.{Form, Setting, Word, flag_words, is_among, is_number, is_positional, option_words}
-use Rattle.hv_words.specs.Taken.{check_form, plain_form, run_form, show_form}
 use Rattle.hv_words.specs.declared.line.Line.{Line}
 use Rattle.hv_words.specs.declared.line.Parted.{Parted}
 use Rattle.hv_words.specs.declared.order.WordsEnd.{WordsEnd}
@@ -14,21 +11,6 @@ use Rattle.hv_words.specs.declared.subcommand.Kind.{Kind}
 use Rattle.hv_words.specs.declared.subcommand.Kind.TheVariants.{Valued, Flag, Positional, Unknown}
 use Rattle.hv_words.specs.declared.subcommand.Form.{Form as DeclaredForm}
 use Rattle.hv_words.specs.declared.subcommand.Setting.{Setting as DeclaredSetting}
-use Rattle.hv_words.specs.declared.subcommand.Subcommand.{Subcommand}
-use Rattle.hv_words.specs.declared.subcommand.Subcommand.TheVariants.{Check, Show, Plain, Run}
-
-abbrev pub form : Subcommand → Form
-form Check = check_form
-form Show = show_form
-form Plain = plain_form
-form Run = run_form
-
--- all subcommands
-abbrev pub subcommands : List Subcommand
-subcommands = Check ∷ Show ∷ Plain ∷ Run ∷ []
-
-abbrev pub subcommand_named : Word → Option Subcommand
-subcommand_named word = find (λ s. bytes_eq word (form s).name) subcommands
 
 -- an option and a row of the table as code has them
 abbrev pub setting_of : DeclaredSetting → Setting
@@ -36,7 +18,9 @@ setting_of s = record { name = s.name.now; least = s.least; most = s.most; fallb
 
 abbrev pub form_of : DeclaredForm → Form
 form_of f = record {
+  subcommand = f.subcommand;
   name = f.name.now;
+  takes = f.takes;
   options = map setting_of f.options.now;
   flags = map (λ s. s.now) f.flags.now;
 }

@@ -1,8 +1,10 @@
 -- What clap makes of the words that are left.
 use Rattle.std.specs.Prelude.{◌≡◌, ◌<◌, ◌≤◌, ◌^◌, ℕ, Bool, true, List, [], ◌∷◌, codes}
 use Rattle.std.specs.Prelude.{Option, Some, None, Result, Ok, Err, if◌then◌else◌}
+use Rattle.std.specs.Borrow.{Bor}
+use Rattle.std.specs.List.{Contains}
 use Rattle.clap.specs.Words.{found_of, one_text}
-use Rattle.hv_words.specs.Taken.{AllFit, AreNew, Entered, Form, Item, Setting, SetsEach, Word, dashed, flag}
+use Rattle.hv_words.specs.Taken.{AllFit, AreNew, Form, Item, Setting, SetsEach, Word, dashed, flag}
 use Rattle.hv_words.specs.Taken.{has_flag, is_number, number_of, option, positional, value_of}
 use Rattle.hv_words.specs.declared.order.WordsEnd.{WordsEnd}
 use Rattle.hv_words.specs.declared.order.WordsEnd.TheVariants.{Usage, NoMemory}
@@ -47,7 +49,7 @@ HasFlags s items (name ∷ names) = HasFlag s items name × HasFlags s items nam
 
 abbrev pub HasSettings : Form → List Item → Result Settings WordsEnd → Type 0
 HasSettings form items (Ok s) = HasOptions s items form.options × HasFlags s items form.flags
-HasSettings form items (Err Usage) = (ns : List ℕ) → SetsEach form.options items ns → ⊥
+HasSettings form items (Err Usage) = (ns : List (Word × ℕ)) → SetsEach form.options items ns → ⊥
 HasSettings form items (Err NoMemory) = Unit {0}
 
 -- the settings of whatever items the words are left of
@@ -55,32 +57,36 @@ abbrev pub ReadsLeft : Form → List Word → Result Settings WordsEnd → Type 
 ReadsLeft form left result = (items : List Item) → AllFit form items → AreNew [] items
     → left_of items ≡ left → HasSettings form items result
 
--- the number of an option, by what was read for its name
-abbrev pub IsNumberOf : Setting → Option Word → ℕ → Type 0
+-- the number of an option, if there is one, by what was read for its name
+abbrev pub IsNumberOf : Setting → Option Word → Option ℕ → Type 0
 IsNumberOf setting None n = n ≡ setting.fallback
 IsNumberOf setting (Some value) n =
-    is_number value ≡ true → number_of value < 2 ^ 64 → n ≡ number_of value
+    is_number value ≡ true → number_of value < 2 ^ 64 → n ≡ Some (number_of value)
 
-abbrev pub AreNumbersOf : Settings → List Setting → List ℕ → Type 0
+abbrev pub AreNumbersOf : Settings → List Setting → List (Word × ℕ) → Type 0
 AreNumbersOf s [] [] = Unit {0}
-AreNumbersOf s (setting ∷ settings) (n ∷ ns) =
-    IsNumberOf setting (text_at s setting.name) n × AreNumbersOf s settings ns
-AreNumbersOf s [] (n ∷ ns) = ⊥
+AreNumbersOf s (setting ∷ settings) (entry ∷ entries) = (entry.0 ≡ setting.name)
+    × IsNumberOf setting (text_at s setting.name) (Some entry.1) × AreNumbersOf s settings entries
+AreNumbersOf s [] (entry ∷ entries) = ⊥
 AreNumbersOf s (setting ∷ settings) [] = ⊥
+
+-- an option has no number
+abbrev pub Lacks : Settings → List Setting → WordsEnd → Type 0
+Lacks s options Usage =
+    (o : Setting) × Contains options o × IsNumberOf o (text_at s o.name) None
+Lacks s options NoMemory = Unit {0}
 
 -- whether a flag is given, by what was read for its name
 abbrev pub IsMarkOf : Option Word → Bool → Type 0
 IsMarkOf text mark = (b : Bool) → text ≡ Some (flag_text b) → mark ≡ b
 
-abbrev pub AreMarksOf : Settings → List Word → List Bool → Type 0
+abbrev pub AreMarksOf : Settings → List Word → List (Word × Bool) → Type 0
 AreMarksOf s [] [] = Unit {0}
-AreMarksOf s (name ∷ names) (mark ∷ marks) = IsMarkOf (text_at s name) mark × AreMarksOf s names marks
-AreMarksOf s [] (mark ∷ marks) = ⊥
+AreMarksOf s (name ∷ names) (entry ∷ entries) =
+    (entry.0 ≡ name) × IsMarkOf (text_at s name) entry.1 × AreMarksOf s names entries
+AreMarksOf s [] (entry ∷ entries) = ⊥
 AreMarksOf s (name ∷ names) [] = ⊥
 
--- a row of the table with what was read
-pub record IsFilled (form : Form) (file : Word) (s : Settings) (e : Entered) : Type 0 where
-  pub row : e.form ≡ form
-  pub name : e.file ≡ file
-  pub numbers : AreNumbersOf s form.options e.numbers
-  pub marks : AreMarksOf s form.flags e.marks
+-- a number or a mark with its name as bytes
+abbrev pub entry_of : {A : Type 0} → Bor Word × A → Word × A
+entry_of entry = (entry.0.now, entry.1)

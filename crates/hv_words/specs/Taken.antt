@@ -1,9 +1,13 @@
 -- Which words are taken, and what they ask for. A word is seen as its bytes.
 use Rattle.std.specs.Prelude.{◌≡◌, ◌==◌, ◌&&◌, ◌||◌, ◌+◌, ◌-◌, ◌*◌, ◌^◌, ◌≤◌, nat_le, not}
 use Rattle.std.specs.Prelude.{ℕ, Bool, true, false, List, [], ◌∷◌, ◌++◌, length, map, codes}
-use Rattle.std.specs.Prelude.{Option, Some, None, if◌then◌else◌}
+use Rattle.std.specs.Prelude.{Option, Some, None, find, if◌then◌else◌}
 use Rattle.std.specs.List.{list_all, list_any}
 use Rattle.std.specs.Str.{bytes_eq}
+use Rattle.hv_words.specs.declared.subcommand.Positional.{Positional}
+use Rattle.hv_words.specs.declared.subcommand.Positional.TheVariants.{File, Number}
+use Rattle.hv_words.specs.declared.subcommand.Subcommand.{Subcommand}
+use Rattle.hv_words.specs.declared.subcommand.Subcommand.TheVariants.{Check, Show, Plain, Run}
 
 abbrev pub Word : Type 0
 Word = List ℕ
@@ -28,60 +32,74 @@ number_of (digit ∷ rest) = (digit - 48) * 10 ^ length rest + number_of rest
 -- ---- the table
 
 -- an option by its name, the numbers that it takes, and the number that stands for it where it isn't
--- given
+-- given; one without such a number must be given
 pub record Setting : Type 0 where
   pub name : Word
   pub least : ℕ
   pub most : ℕ
-  pub fallback : ℕ
+  pub fallback : Option ℕ
 
 abbrev pub steps_option : Setting
-steps_option = record { name = codes "steps"; least = 1; most = 1073741824; fallback = 10000000 }
+steps_option = record { name = codes "steps"; least = 1; most = 1073741824; fallback = Some 10000000 }
 
 abbrev pub trace_flag : Word
 trace_flag = codes "trace"
 
--- a subcommand by its name, with its options and the names of its flags; each takes one positional,
--- which names a file
+-- a row: a subcommand, its name, what its one positional is, its options, and the names of its flags
 pub record Form : Type 0 where
+  pub subcommand : Subcommand
   pub name : Word
+  pub takes : Positional
   pub options : List Setting
   pub flags : List Word
 
-abbrev pub check_form : Form
-check_form = record { name = codes "check"; options = []; flags = [] }
+abbrev pub table : List Form
+table =
+    record { subcommand = Check; name = codes "check"; takes = File; options = []; flags = [] }
+    ∷ record { subcommand = Show; name = codes "show"; takes = File; options = []; flags = [] }
+    ∷ record { subcommand = Plain; name = codes "plain"; takes = File; options = steps_option ∷ []; flags = trace_flag ∷ [] }
+    ∷ record { subcommand = Run; name = codes "run"; takes = File; options = steps_option ∷ []; flags = trace_flag ∷ [] }
+    ∷ []
 
-abbrev pub show_form : Form
-show_form = record { name = codes "show"; options = []; flags = [] }
+-- the row of a name
+abbrev pub row_named : Word → Option Form
+row_named name = find (λ row. bytes_eq name row.name) table
 
-abbrev pub plain_form : Form
-plain_form = record { name = codes "plain"; options = steps_option ∷ []; flags = trace_flag ∷ [] }
+-- ---- what may be asked for
 
-abbrev pub run_form : Form
-run_form = record { name = codes "run"; options = steps_option ∷ []; flags = trace_flag ∷ [] }
+-- what words behind a name say: the positional, the number that it is where the row takes one, and by
+-- their names a number for each option and whether each flag is given
+pub record Said : Type 0 where
+  pub word : Word
+  pub count : ℕ
+  pub numbers : List (Word × ℕ)
+  pub marks : List (Word × Bool)
 
--- what may be asked for
+-- what stands by a name
+abbrev pub by_name : {A : Type 0} → Word → A → List (Word × A) → A
+by_name name other [] = other
+by_name name other (entry ∷ entries) = if bytes_eq name entry.0 then entry.1 else by_name name other entries
+
+abbrev pub number_said : Said → Word → ℕ
+number_said said name = by_name name 0 said.numbers
+
+abbrev pub is_said : Said → Word → Bool
+is_said said name = by_name name false said.marks
+
 pub data Asked : Type 0 where
   check : Word → Asked
   show : Word → Asked
   plain : Word → ℕ → Bool → Asked
   run : Word → ℕ → Bool → Asked
 
--- what is asked for by a row of the table: a number for each of its options, and whether each of its
--- flags is given
-pub record Entered : Type 0 where
-  pub form : Form
-  pub file : Word
-  pub numbers : List ℕ
-  pub marks : List Bool
+-- what a subcommand asks for
+abbrev pub asked_by : Subcommand → Said → Asked
+asked_by Check said = check said.word
+asked_by Show said = show said.word
+asked_by Plain said = plain said.word (number_said said steps_option.name) (is_said said trace_flag)
+asked_by Run said = run said.word (number_said said steps_option.name) (is_said said trace_flag)
 
-abbrev pub entered : Asked → Entered
-entered (check file) = record { form = check_form; file = file; numbers = []; marks = [] }
-entered (show file) = record { form = show_form; file = file; numbers = []; marks = [] }
-entered (plain file steps trace) =
-    record { form = plain_form; file = file; numbers = steps ∷ []; marks = trace ∷ [] }
-entered (run file steps trace) =
-    record { form = run_form; file = file; numbers = steps ∷ []; marks = trace ∷ [] }
+-- ---- the words behind the name
 
 -- the word that gives an option or a flag: its name behind two hyphens
 abbrev pub dashed : Word → Word
@@ -92,8 +110,6 @@ option_words form = map (λ o. dashed o.name) form.options
 
 abbrev pub flag_words : Form → List Word
 flag_words form = map dashed form.flags
-
--- ---- the words behind the subcommand
 
 -- a positional, an option with the word behind it, or a flag
 pub data Item : Type 0 where
@@ -157,9 +173,15 @@ has_flag wanted (positional word ∷ items) = has_flag wanted items
 has_flag wanted (option name value ∷ items) = has_flag wanted items
 has_flag wanted (flag name ∷ items) = bytes_eq name wanted || has_flag wanted items
 
+-- the positional is of this kind, and the number that it writes; a file's name writes none
+abbrev pub Counts : Positional → Word → ℕ → Type 0
+Counts File word n = n ≡ 0
+Counts (Number least most) word n =
+    (is_number word ≡ true) × (n ≡ number_of word) × (least ≤ n) × (n ≤ most)
+
 -- the number that an option's value writes, in its range, or what stands for the option
 abbrev pub SetsTo : Setting → Option Word → ℕ → Type 0
-SetsTo setting None n = n ≡ setting.fallback
+SetsTo setting None n = setting.fallback ≡ Some n
 SetsTo setting (Some value) n =
     (n ≡ number_of value) × (setting.least ≤ n) × (n ≤ setting.most)
 
@@ -167,22 +189,34 @@ abbrev pub Sets : Setting → List Item → ℕ → Type 0
 Sets setting items n = SetsTo setting (value_of (dashed setting.name) items) n
 
 -- each option has its number
-abbrev pub SetsEach : List Setting → List Item → List ℕ → Type 0
+abbrev pub SetsEach : List Setting → List Item → List (Word × ℕ) → Type 0
 SetsEach [] items [] = Unit {0}
-SetsEach (setting ∷ settings) items (n ∷ ns) = Sets setting items n × SetsEach settings items ns
-SetsEach [] items (n ∷ ns) = ⊥
+SetsEach (setting ∷ settings) items (entry ∷ entries) =
+    (entry.0 ≡ setting.name) × Sets setting items entry.1 × SetsEach settings items entries
+SetsEach [] items (entry ∷ entries) = ⊥
 SetsEach (setting ∷ settings) items [] = ⊥
 
--- the items ask for this
-abbrev pub Asks : List Item → Entered → Type 0
-Asks items e = (positionals items ≡ e.file ∷ []) × SetsEach e.form.options items e.numbers
-    × (e.marks ≡ map (λ name. has_flag (dashed name) items) e.form.flags)
+abbrev pub mark_of : List Item → Word → Word × Bool
+mark_of items name = (name, has_flag (dashed name) items)
 
--- the words are taken, and ask for this: behind the name of a subcommand stand items that it takes,
--- each option and each flag once at most
-abbrev pub Taken : List Word → Asked → Type 0
-Taken words asked = (items : List Item)
-    × (words ≡ (entered asked).form.name ∷ spelled items)
-    × AllFit (entered asked).form items
-    × AreNew [] items
-    × Asks items (entered asked)
+-- the items say this for the row
+abbrev pub Tells : Form → List Item → Said → Type 0
+Tells row items said = (positionals items ≡ said.word ∷ []) × Counts row.takes said.word said.count
+    × SetsEach row.options items said.numbers × (said.marks ≡ map (mark_of items) row.flags)
+
+-- the words say this for the row: they are items that it takes, each option and each flag once at most
+abbrev pub Says : Form → List Word → Said → Type 0
+Says row words said = (items : List Item) × (words ≡ spelled items) × AllFit row items × AreNew [] items
+    × Tells row items said
+
+-- the words are taken, and ask for this: the first is the name of a row, and those behind it say for
+-- this row what is asked for
+pub record Taken (words : List Word) (asked : Asked) : Type 0 where
+  pub name : Word
+  pub rest : List Word
+  pub row : Form
+  pub said : Said
+  pub begins : words ≡ name ∷ rest
+  pub named : row_named name ≡ Some row
+  pub says : Says row rest said
+  pub is : asked ≡ asked_by row.subcommand said

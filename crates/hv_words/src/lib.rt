@@ -2,7 +2,9 @@
 #![tactic(auto)]
 
 mod line;
+mod number;
 mod order;
+mod said;
 mod settings;
 mod subcommand;
 #[cfg(test)]

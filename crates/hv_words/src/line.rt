@@ -1,14 +1,13 @@
 //! One pass over the words behind the subcommand: it takes off the positional, and refuses a word
 //! that has no place there.
 ghost use Rattle.std.specs.Prelude.{◌≡◌, Some, map, string_bytes};
-ghost use Rattle.std.specs.List.{list_all};
-ghost use Rattle.hv_words.specs.Line.{form, form_of, line_of, nothing_seen, seen_of};
+ghost use Rattle.hv_words.specs.Line.{form_of, line_of, nothing_seen, seen_of};
 ghost use Rattle.hv_words.specs.Line.{ended, file_step, name_step, step, value_step};
 ghost use Rattle.hv_words.specs.Line.{Parts, Steps, kept, noted};
-ghost use Rattle.hv_words.specs.Taken.{is_digit, is_number};
 
+use crate::number::is_number;
 use crate::order::WordsEnd;
-use crate::subcommand::{Form, Kind, Subcommand, is_among};
+use crate::subcommand::{Form, Kind, is_among};
 use std::alloc::Global;
 
 /// The words of a line so far.
@@ -28,21 +27,6 @@ struct Line<'a> {
 pub(crate) struct Parted<'a> {
     pub(crate) file: &'a str,
     pub(crate) left: Vec<&'a str>,
-}
-
-const MOST_DIGITS: usize = 20;
-
-fn are_digits(bytes: &[u8]) -> bool
-    ensures { result ≡ list_all is_digit bytes.now }
-{
-    bytes.iter().all(|b| *b >= b'0' && *b <= b'9')
-}
-
-fn is_number(word: &str) -> bool
-    ensures { result ≡ is_number word.now }
-{
-    let digits = word.as_bytes();
-    1 <= digits.len() && digits.len() <= MOST_DIGITS && are_digits(digits)
 }
 
 impl<'a> Line<'a> {
@@ -143,17 +127,16 @@ impl<'a> Line<'a> {
 }
 
 /// Parts the positional from the options and flags.
-pub(crate) fn part(
+pub(crate) fn part<'a>(
     alloc: Global,
-    subcommand: Subcommand,
-    words: &[String],
-) -> Result<Parted<'_>, WordsEnd>
-    ensures { Parts (line_of (form subcommand) (map string_bytes words.now)) result }
+    form: &Form,
+    words: &'a [String],
+) -> Result<Parted<'a>, WordsEnd>
+    ensures { Parts (line_of (form_of form.now) (map string_bytes words.now)) result }
 {
-    let form = subcommand.form();
     let mut line = Line::new(alloc);
     for word in words {
-        if let Err(end) = line.take(&form, word.as_str()) {
+        if let Err(end) = line.take(form, word.as_str()) {
             return Err(end);
         }
     }

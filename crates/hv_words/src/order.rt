@@ -1,13 +1,11 @@
 //! Orders, and how words give one.
-ghost use Rattle.std.specs.Prelude.{◌∷◌, map, string_bytes};
+ghost use Rattle.std.specs.Prelude.{◌≡◌, map, string_bytes};
 ghost use Rattle.hv_words.specs.Answers.{Answers, asked_of};
-ghost use Rattle.hv_words.specs.Line.{form};
-ghost use Rattle.hv_words.specs.Settings.{IsFilled};
-ghost use Rattle.hv_words.specs.Taken.{entered};
+ghost use Rattle.hv_words.specs.Taken.{asked_by};
+ghost use Rattle.hv_words.specs.Telling.{said_of};
 
-use crate::line::part;
-use crate::settings::{Settings, read_settings};
-use crate::subcommand::{STEPS, Subcommand, TRACE};
+use crate::said::{Said, read_said};
+use crate::subcommand::{Form, STEPS, Subcommand, TRACE};
 use std::alloc::Global;
 use thiserror::Error;
 
@@ -49,45 +47,35 @@ pub fn read_words(alloc: Global, words: &[String]) -> Result<Order, WordsEnd>
     let [name, rest @ ..] = words else {
         return Err(WordsEnd::Usage);
     };
-    match Subcommand::named(name.as_str()) {
-        Some(subcommand) => order_of(alloc, subcommand, rest),
-        None => Err(WordsEnd::Usage),
-    }
-}
-
-fn order_of(alloc: Global, subcommand: Subcommand, words: &[String]) -> Result<Order, WordsEnd>
-    ensures { Answers ((form subcommand).name ∷ map string_bytes words.now) result }
-{
-    let parted = match part(alloc, subcommand, words) {
-        Ok(parted) => parted,
+    let Some(form) = Form::named(name.as_str()) else {
+        return Err(WordsEnd::Usage);
+    };
+    let said = match read_said(alloc, &form, rest) {
+        Ok(said) => said,
         Err(end) => return Err(end),
     };
-    let settings = match read_settings(alloc, subcommand, parted.left.as_slice()) {
-        Ok(settings) => settings,
-        Err(end) => return Err(end),
-    };
-    match String::from_str(alloc, parted.file) {
-        Ok(file) => Ok(filled(subcommand, file, &settings)),
+    match String::from_str(alloc, said.word) {
+        Ok(word) => Ok(order_of(form.subcommand, word, &said)),
         Err(_) => Err(WordsEnd::NoMemory),
     }
 }
 
-/// The order of a subcommand.
-fn filled(subcommand: Subcommand, file: String, settings: &Settings) -> Order
-    ensures { IsFilled (form subcommand) (string_bytes file) settings.now (entered (asked_of result)) }
+/// The order of a subcommand, by the positional and all that is said.
+fn order_of(subcommand: Subcommand, word: String, said: &Said) -> Order
+    ensures { asked_of result ≡ asked_by subcommand (record (said_of said.now) { word = string_bytes word }) }
 {
     match subcommand {
-        Subcommand::Check => Order::Check { file },
-        Subcommand::Show => Order::Show { file },
+        Subcommand::Check => Order::Check { file: word },
+        Subcommand::Show => Order::Show { file: word },
         Subcommand::Plain => Order::Plain {
-            file,
-            steps: settings.number(&STEPS),
-            trace: settings.flag(TRACE),
+            file: word,
+            steps: said.number(STEPS.name),
+            trace: said.mark(TRACE),
         },
         Subcommand::Run => Order::Run {
-            file,
-            steps: settings.number(&STEPS),
-            trace: settings.flag(TRACE),
+            file: word,
+            steps: said.number(STEPS.name),
+            trace: said.mark(TRACE),
         },
     }
 }

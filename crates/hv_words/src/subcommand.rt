@@ -1,12 +1,15 @@
 //! The table of subcommands, options and flags.
-ghost use Rattle.std.specs.Prelude.{◌≡◌, map, option_map};
+ghost use Rattle.std.specs.Prelude.{◌≡◌, find, map, option_map};
 ghost use Rattle.std.specs.List.{list_any};
 ghost use Rattle.std.specs.Str.{bytes_eq};
 ghost use Rattle.clap.specs.Lexer.{strip_byte};
-ghost use Rattle.hv_words.specs.Line.{form, form_of, kind_of, name_of, subcommand_named};
-ghost use Rattle.hv_words.specs.Taken.{flag_words, is_among, is_positional, option_words};
+ghost use Rattle.hv_words.specs.Line.{form_of, kind_of, name_of};
+ghost use Rattle.hv_words.specs.Taken.{flag_words, is_among, is_positional, option_words, row_named};
+ghost use Rattle.hv_words.specs.Telling.{count_of};
 
-/// A subcommand, whose row in the table is its form.
+use crate::number::number_in;
+
+/// A subcommand, as its row in the table names it.
 #[derive(Clone, Copy, Debug)]
 pub(crate) enum Subcommand {
     Check,
@@ -15,20 +18,31 @@ pub(crate) enum Subcommand {
     Run,
 }
 
+/// What the one positional of a subcommand is.
+#[derive(Clone, Copy, Debug)]
+pub(crate) enum Positional {
+    /// The name of a file.
+    File,
+    /// A number of this range.
+    Number { least: u64, most: u64 },
+}
+
 /// An option by its name without hyphens, the numbers that it takes, and the number that stands for
-/// it where it isn't given.
+/// it where it isn't given; without such a number it must be given.
 #[derive(Clone, Copy, Debug)]
 pub(crate) struct Setting {
     pub(crate) name: &'static str,
     pub(crate) least: u64,
     pub(crate) most: u64,
-    pub(crate) fallback: u64,
+    pub(crate) fallback: Option<u64>,
 }
 
-/// A row of the table: a subcommand's name, its options, and the names of its flags.
+/// A row of the table: a subcommand, its name, its positional, its options, and the names of its flags.
 #[derive(Clone, Copy, Debug)]
 pub(crate) struct Form {
+    pub(crate) subcommand: Subcommand,
     pub(crate) name: &'static str,
+    pub(crate) takes: Positional,
     pub(crate) options: &'static [Setting],
     pub(crate) flags: &'static [&'static str],
 }
@@ -37,10 +51,41 @@ pub(crate) const STEPS: Setting = Setting {
     name: "steps",
     least: 1,
     most: 1_073_741_824,
-    fallback: 10_000_000,
+    fallback: Some(10_000_000),
 };
 
 pub(crate) const TRACE: &str = "trace";
+
+const ROWS: [Form; 4] = [
+    Form {
+        subcommand: Subcommand::Check,
+        name: "check",
+        takes: Positional::File,
+        options: &[],
+        flags: &[],
+    },
+    Form {
+        subcommand: Subcommand::Show,
+        name: "show",
+        takes: Positional::File,
+        options: &[],
+        flags: &[],
+    },
+    Form {
+        subcommand: Subcommand::Plain,
+        name: "plain",
+        takes: Positional::File,
+        options: &[STEPS],
+        flags: &[TRACE],
+    },
+    Form {
+        subcommand: Subcommand::Run,
+        name: "run",
+        takes: Positional::File,
+        options: &[STEPS],
+        flags: &[TRACE],
+    },
+];
 
 /// What a word is behind the name of a subcommand, where no value is waited for.
 #[derive(Clone, Copy, Debug)]
@@ -85,56 +130,38 @@ fn name_of(word: &str) -> Option<&str>
     without_hyphen(without_hyphen(word)?)
 }
 
-impl Subcommand {
-    const ALL: [Subcommand; 4] = [
-        Subcommand::Check,
-        Subcommand::Show,
-        Subcommand::Plain,
-        Subcommand::Run,
-    ];
-
-    /// The subcommand of this name.
-    pub(crate) fn named(word: &str) -> Option<Subcommand>
-        ensures { result ≡ subcommand_named word.now }
-    {
-        for subcommand in &Subcommand::ALL {
-            if word == subcommand.form().name {
-                return Some(*subcommand);
-            }
-        }
-        None
-    }
-
-    /// Its row in the table.
-    pub(crate) fn form(self) -> Form
-        ensures { form_of result ≡ form self }
+impl Positional {
+    /// The number that the word is, or 0 where it names a file; none where it isn't of this kind.
+    pub(crate) fn count_of(self, word: &str) -> Option<u64>
+        ensures { result ≡ count_of self word.now }
     {
         match self {
-            Subcommand::Check => Form {
-                name: "check",
-                options: &[],
-                flags: &[],
-            },
-            Subcommand::Show => Form {
-                name: "show",
-                options: &[],
-                flags: &[],
-            },
-            Subcommand::Plain => Form {
-                name: "plain",
-                options: &[STEPS],
-                flags: &[TRACE],
-            },
-            Subcommand::Run => Form {
-                name: "run",
-                options: &[STEPS],
-                flags: &[TRACE],
-            },
+            Positional::File => Some(0),
+            Positional::Number { least, most } => number_in(word, least, most),
         }
     }
 }
 
+/// The first of the rows with the name.
+fn first_named(rows: &[Form], name: &str) -> Option<Form>
+    ensures { option_map form_of result ≡ find (λ f. bytes_eq name.now f.name) (map form_of rows.now) }
+{
+    for form in rows {
+        if name == form.name {
+            return Some(*form);
+        }
+    }
+    None
+}
+
 impl Form {
+    /// The row of the name.
+    pub(crate) fn named(name: &str) -> Option<Form>
+        ensures { option_map form_of result ≡ row_named name.now }
+    {
+        first_named(&ROWS, name)
+    }
+
     fn has_option(&self, name: &str) -> bool
         ensures { result ≡ list_any (λ o. bytes_eq o.name.now name.now) self.now.options.now }
     {

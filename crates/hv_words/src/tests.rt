@@ -1,3 +1,5 @@
+use crate::said::{Said, read_said};
+use crate::subcommand::{Form, Positional, STEPS, Setting, Subcommand};
 use crate::{Order, WordsEnd, read_words};
 use std::alloc::{AllocError, Global};
 use std::test::Fail;
@@ -159,6 +161,86 @@ static REFUSED: [&[&str]; 92] = [
     &["debug", "-", "--seed", "1", "--moves", "s"],
 ];
 
+const SEED: Setting = Setting {
+    name: "seed",
+    least: 0,
+    most: 18_446_744_073_709_551_615,
+    fallback: None,
+};
+
+// a row with an option that must be given
+const SEEDED: Form = Form {
+    subcommand: Subcommand::Run,
+    name: "seeded",
+    takes: Positional::File,
+    options: &[SEED, STEPS],
+    flags: &["events"],
+};
+
+// a row whose positional is a number
+const COUNTED: Form = Form {
+    subcommand: Subcommand::Run,
+    name: "counted",
+    takes: Positional::Number {
+        least: 1,
+        most: 4096,
+    },
+    options: &[],
+    flags: &["events"],
+};
+
+static OF_ROWS: [(Form, &[&str], &str); 29] = [
+    (SEEDED, &["F", "--seed", "7"], "F 0 7 10000000 false"),
+    (
+        SEEDED,
+        &["--seed", "0", "F", "--events"],
+        "F 0 0 10000000 true",
+    ),
+    (
+        SEEDED,
+        &["--steps", "5", "--seed", "7", "-"],
+        "- 0 7 5 false",
+    ),
+    (
+        SEEDED,
+        &["--seed", "7", "--steps", "5", "-"],
+        "- 0 7 5 false",
+    ),
+    (
+        SEEDED,
+        &["F", "--seed", "18446744073709551615"],
+        "F 0 18446744073709551615 10000000 false",
+    ),
+    (SEEDED, &["F", "--seed", "18446744073709551616"], "usage"),
+    (SEEDED, &["F"], "usage"),
+    (SEEDED, &["F", "--steps", "5"], "usage"),
+    (SEEDED, &["F", "--events"], "usage"),
+    (SEEDED, &["F", "--seed"], "usage"),
+    (SEEDED, &["F", "--seed", "--events"], "usage"),
+    (SEEDED, &["F", "--seed", "7", "--seed", "7"], "usage"),
+    (SEEDED, &["--seed", "7"], "usage"),
+    (SEEDED, &["F", "--seed", "x"], "usage"),
+    (COUNTED, &["1"], "1 1 0 0 false"),
+    (COUNTED, &["4096"], "4096 4096 0 0 false"),
+    (COUNTED, &["--events", "3"], "3 3 0 0 true"),
+    (
+        COUNTED,
+        &["00000000000000000003"],
+        "00000000000000000003 3 0 0 false",
+    ),
+    (COUNTED, &["0"], "usage"),
+    (COUNTED, &["4097"], "usage"),
+    (COUNTED, &["18446744073709551617"], "usage"),
+    (COUNTED, &["000000000000000000003"], "usage"),
+    (COUNTED, &["F"], "usage"),
+    (COUNTED, &["-"], "usage"),
+    (COUNTED, &["+3"], "usage"),
+    (COUNTED, &["-3"], "usage"),
+    (COUNTED, &["3", "3"], "usage"),
+    (COUNTED, &["3", "--seed", "7"], "usage"),
+    (COUNTED, &[], "usage"),
+];
+
 fn owned(alloc: Global, words: &[&str]) -> Result<Vec<String>, AllocError> {
     let mut all = Vec::new(alloc);
     for word in words {
@@ -196,6 +278,26 @@ fn other_words_are_usage(rt: HostRuntime) -> Result<(), Fail> {
             Err(WordsEnd::Usage)
         );
         assert!(rt; is_usage, "for {words:?}");
+    }
+    Ok(())
+}
+
+fn text_said(alloc: Global, said: &Said) -> Result<String, AllocError> {
+    let (word, count) = (said.word, said.count);
+    let (seed, steps) = (said.number("seed"), said.number("steps"));
+    let events = said.mark("events");
+    format!(in alloc; "{word} {count} {seed} {steps} {events}")
+}
+
+#[test]
+fn rows_of_every_column_are_read(rt: HostRuntime) -> Result<(), Fail> {
+    for (form, words, want) in OF_ROWS.iter() {
+        let given = owned(rt.alloc(), words)?;
+        let text = match read_said(rt.alloc(), form, given.as_slice()) {
+            Ok(said) => text_said(rt.alloc(), &said)?,
+            Err(_) => String::from_str(rt.alloc(), "usage")?,
+        };
+        assert_eq!(rt; text.as_str(), *want, "for {words:?}");
     }
     Ok(())
 }

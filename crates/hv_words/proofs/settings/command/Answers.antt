@@ -9,6 +9,6 @@ pub returns : goal.returns
 unfolding app_by
 returns c =
     IfOk-weaker c.with_flags.result _ _
-    (λ r h. h ∙ ap (λ a. with_rules a (map flag_rule (map (λ s. s.now) c.args.form.flags.now))) (c.in_ok-command.ensures ∙ ap (λ a. with_rules a (map option_rule (map setting_of c.args.form.options.now))) c.bare.ensures)
-    ∙ all_more bare_app (map option_rule (map setting_of c.args.form.options.now)) (map flag_rule (map (λ s. s.now) c.args.form.flags.now)))
+    (λ r h. h ∙ ap (λ a. with_rules a (map flag_rule (map (λ s. s.now) c.args.form.now.flags.now))) (c.in_ok-command.ensures ∙ ap (λ a. with_rules a (map option_rule (map setting_of c.args.form.now.options.now))) c.bare.ensures)
+    ∙ all_more bare_app (map option_rule (map setting_of c.args.form.now.options.now)) (map flag_rule (map (λ s. s.now) c.args.form.now.flags.now)))
     c.with_flags.ensures
