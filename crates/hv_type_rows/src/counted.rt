@@ -1,5 +1,5 @@
 // Structs at the greatest depth and with the greatest number of leaves.
-use crate::judging::{Judged, judged, unmarked};
+use crate::judging::{Judged, answer_of, unmarked};
 use hv_tree::Rule;
 use std::alloc::{AllocError as NoMemory, Global};
 use std::test::Fail;
@@ -47,11 +47,11 @@ fn structs_are_refused_beyond_their_bounds(rt: HostRuntime) -> Result<(), Fail> 
     ];
     for (text, refused) in &rows {
         let (source, place) = unmarked(alloc, text.as_str())?;
-        let found = judged(alloc, source.as_slice())?;
+        let found = answer_of(alloc, source.as_slice())?;
         assert_eq!(rt; found == Judged::Accepted, !*refused, "at {place}");
     }
     let (source, place) = unmarked(alloc, chain(alloc, 100)?.as_str())?;
-    let found = judged(alloc, source.as_slice())?;
+    let found = answer_of(alloc, source.as_slice())?;
     assert!(rt; matches!(found, Judged::Refused(Rule::T4, start) if start as usize == place));
     Ok(())
 }

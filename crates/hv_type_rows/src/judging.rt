@@ -4,7 +4,7 @@ use hv_tree::Rule;
 use hv_types::names_and_types;
 use std::alloc::{AllocError as NoMemory, Global};
 
-/// What is judged of a source.
+/// What is answer_of of a source.
 #[derive(Clone, Copy, Debug, PartialEq, Eq)]
 pub enum Judged {
     Accepted,
@@ -27,7 +27,7 @@ pub fn unmarked(alloc: Global, text: &str) -> Result<(Vec<u8>, usize), NoMemory>
     Ok((source, place))
 }
 
-pub fn judged(alloc: Global, source: &[u8]) -> Result<Judged, NoMemory> {
+pub fn answer_of(alloc: Global, source: &[u8]) -> Result<Judged, NoMemory> {
     if source.len() > 1_048_576 {
         return Ok(Judged::Unread);
     }

@@ -1,5 +1,5 @@
 // Programs that violate a rule at the mark `^`, and the nearest ones that don't.
-use crate::judging::{Judged, judged, unmarked};
+use crate::judging::{Judged, answer_of, unmarked};
 use hv_tree::Rule;
 use std::alloc::{AllocError as NoMemory, Global};
 use std::test::Fail;
@@ -432,7 +432,7 @@ const ACCEPTED: [&str; 59] = [
 
 fn is_refused(alloc: Global, rule: Rule, text: &str) -> Result<bool, NoMemory> {
     let (source, place) = unmarked(alloc, text)?;
-    match judged(alloc, source.as_slice())? {
+    match answer_of(alloc, source.as_slice())? {
         Judged::Refused(found, start) => Ok(found == rule && start as usize == place),
         _ => Ok(false),
     }
@@ -445,7 +445,11 @@ fn a_program_is_refused_at_its_first_violation(rt: HostRuntime) -> Result<(), Fa
         assert!(rt; is_refused(alloc, *rule, text)?, "{text}");
     }
     for text in &ACCEPTED {
-        assert_eq!(rt; judged(alloc, text.as_bytes())?, Judged::Accepted, "{text}");
+        assert_eq!(rt;
+            answer_of(alloc, text.as_bytes())?,
+            Judged::Accepted,
+            "{text}"
+        );
     }
     Ok(())
 }
