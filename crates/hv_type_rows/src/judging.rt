@@ -4,7 +4,7 @@ use hv_tree::Rule;
 use hv_types::names_and_types;
 use std::alloc::{AllocError as NoMemory, Global};
 
-/// What is answer_of of a source.
+/// What is judged of a source.
 #[derive(Clone, Copy, Debug, PartialEq, Eq)]
 pub enum Judged {
     Accepted,
