@@ -1,0 +1,9 @@
+-- lists by cases
+pub mod Each
+-- parts, locals and bodies
+pub mod SitesTell
+-- runs
+pub mod Tells
+pub mod PartsTell
+pub mod TreesTell
+pub mod NodesTell

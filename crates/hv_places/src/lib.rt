@@ -1,0 +1,6 @@
+//! That every place that a program's run or a refusal names stands in the program.
+#![tactic(auto)]
+
+mod law;
+
+pub use law::nodes_name_places_of_the_tree;
