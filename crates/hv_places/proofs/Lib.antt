@@ -7,3 +7,6 @@ pub mod Tells
 pub mod PartsTell
 pub mod TreesTell
 pub mod NodesTell
+-- violations
+pub mod TypesTell
+pub mod NamesTell
