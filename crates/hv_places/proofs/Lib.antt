@@ -10,3 +10,7 @@ pub mod NodesTell
 -- violations
 pub mod TypesTell
 pub mod NamesTell
+-- the places of a tree that tokens spell
+pub mod CoreParts
+pub mod TypesSay
+pub mod TreesSay

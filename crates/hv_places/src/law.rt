@@ -3,13 +3,17 @@ ghost use Rattle.std.specs.Prelude.{◌≡◌, ◌⊎◌, ℕ, Some, Contains};
 ghost use Rattle.hv_tree.specs.declared.place.Place.{Place};
 ghost use Rattle.hv_tree.specs.declared.refusal.Rule.{Rule};
 ghost use Rattle.hv_tree.specs.declared.refusal.Rule.TheVariants.{N3};
-ghost use Rattle.hv_tree.specs.Core.{Core};
+ghost use Rattle.hv_tree.specs.declared.ast.Tree.{Tree};
+ghost use Rattle.hv_tree.specs.Tokens.{Tokens};
+ghost use Rattle.hv_tree.specs.Grammar.{Spells};
+ghost use Rattle.hv_tree.specs.Core.{Core, core_tree};
 ghost use Rattle.hv_rules.specs.Names.{IsViolatedByNames};
 ghost use Rattle.hv_rules.specs.TypeRules.{IsViolatedByTypes};
 ghost use Rattle.hv_copying.specs.Node.{Node};
 ghost use Rattle.hv_copying.specs.Meaning.{node_of};
 ghost use Rattle.hv_places.specs.Places.{IsIn};
 ghost use Rattle.hv_places.specs.NodePlaces.{in_node};
+ghost use Rattle.hv_places.specs.TokenPlaces.{IsAmong};
 
 /// Whatever the budget, each place at which the root or a task below it ended stands in the program.
 pub fn nodes_name_places_of_the_tree()
@@ -20,4 +24,9 @@ pub fn nodes_name_places_of_the_tree()
 pub fn violations_name_places_of_the_tree()
     ensures names { (tree : Core) (r : Rule) (place : Place) → IsViolatedByNames tree r place → IsIn place tree ⊎ ((r ≡ N3) × (place.start ≡ 0)) }
     ensures types { (tree : Core) (r : Rule) (place : Place) → IsViolatedByTypes tree r place → IsIn place tree }
+{}
+
+/// Each place of a program is that of one of the tokens that spell it.
+pub fn trees_name_places_of_their_tokens()
+    ensures { (tree : Tree) (tokens : Tokens) → Spells tree tokens → (place : Place) → IsIn place (core_tree tree) → IsAmong place tokens }
 {}

@@ -3,4 +3,4 @@
 
 mod law;
 
-pub use law::{nodes_name_places_of_the_tree, violations_name_places_of_the_tree};
+pub use law::{nodes_name_places_of_the_tree, trees_name_places_of_their_tokens, violations_name_places_of_the_tree};
