@@ -14,3 +14,6 @@ pub mod NamesTell
 pub mod CoreParts
 pub mod TypesSay
 pub mod TreesSay
+-- where bodies end
+pub mod Counted
+pub mod EndsFit

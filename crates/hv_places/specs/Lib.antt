@@ -2,3 +2,4 @@
 pub mod Places
 pub mod NodePlaces
 pub mod TokenPlaces
+pub mod Ends

@@ -13,7 +13,8 @@ ghost use Rattle.hv_copying.specs.Node.{Node};
 ghost use Rattle.hv_copying.specs.Meaning.{node_of};
 ghost use Rattle.hv_places.specs.Places.{IsIn};
 ghost use Rattle.hv_places.specs.NodePlaces.{in_node};
-ghost use Rattle.hv_places.specs.TokenPlaces.{IsAmong};
+ghost use Rattle.hv_places.specs.TokenPlaces.{IsAmong, Rise};
+ghost use Rattle.hv_places.specs.Ends.{EndApart};
 
 /// Whatever the budget, each place at which the root or a task below it ended stands in the program.
 pub fn nodes_name_places_of_the_tree()
@@ -29,4 +30,9 @@ pub fn violations_name_places_of_the_tree()
 /// Each place of a program is that of one of the tokens that spell it.
 pub fn trees_name_places_of_their_tokens()
     ensures { (tree : Tree) (tokens : Tokens) → Spells tree tokens → (place : Place) → IsIn place (core_tree tree) → IsAmong place tokens }
+{}
+
+/// No two bodies of a program end at one place, where each of the tokens that spell it begins behind those before it.
+pub fn bodies_end_apart()
+    ensures { (tree : Tree) (tokens : Tokens) → Spells tree tokens → Rise tokens → EndApart (core_tree tree) }
 {}

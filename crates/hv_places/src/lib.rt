@@ -3,4 +3,7 @@
 
 mod law;
 
-pub use law::{nodes_name_places_of_the_tree, trees_name_places_of_their_tokens, violations_name_places_of_the_tree};
+pub use law::{
+    bodies_end_apart, nodes_name_places_of_the_tree, trees_name_places_of_their_tokens,
+    violations_name_places_of_the_tree,
+};
