@@ -1,0 +1,8 @@
+use Rattle.hv_lexed_places.proofs.Begins.{tokens_begin, tokens_rise}
+use Rattle.hv_lexed_places.proofs.law.tokens_begin_inside_the_source.Goals as goal
+
+pub returns-clause-inside : goal.returns-clause-inside
+returns-clause-inside c = tokens_begin
+
+pub returns-clause-rising : goal.returns-clause-rising
+returns-clause-rising c = tokens_rise
