@@ -10,6 +10,7 @@ pub mod NodesTell
 -- violations
 pub mod TypesTell
 pub mod NamesTell
+pub mod EventsTell
 -- the places of a tree that tokens spell
 pub mod CoreParts
 pub mod TypesSay

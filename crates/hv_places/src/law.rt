@@ -9,6 +9,7 @@ ghost use Rattle.hv_tree.specs.Grammar.{Spells};
 ghost use Rattle.hv_tree.specs.Core.{Core, core_tree};
 ghost use Rattle.hv_rules.specs.Names.{IsViolatedByNames};
 ghost use Rattle.hv_rules.specs.TypeRules.{IsViolatedByTypes};
+ghost use Rattle.hv_rules.specs.Rules.{IsViolatedByEvents};
 ghost use Rattle.hv_copying.specs.Node.{Node};
 ghost use Rattle.hv_copying.specs.Meaning.{node_of};
 ghost use Rattle.hv_places.specs.Places.{IsIn};
@@ -21,10 +22,11 @@ pub fn nodes_name_places_of_the_tree()
     ensures { (tree : Core) (budget : ℕ) (node : Node) → node_of tree budget ≡ Some node → (place : Place) → Contains (in_node node) place → IsIn place tree }
 {}
 
-/// Each place at which the program violates a rule of names or types stands in the program, or, where `main` lacks, is the beginning.
+/// Each place at which the program violates a rule of names, types or events stands in the program, or, where `main` lacks, is the beginning.
 pub fn violations_name_places_of_the_tree()
     ensures names { (tree : Core) (r : Rule) (place : Place) → IsViolatedByNames tree r place → IsIn place tree ⊎ ((r ≡ N3) × (place.start ≡ 0)) }
     ensures types { (tree : Core) (r : Rule) (place : Place) → IsViolatedByTypes tree r place → IsIn place tree }
+    ensures events { (tree : Core) (r : Rule) (place : Place) → IsViolatedByEvents tree r place → IsIn place tree }
 {}
 
 /// Each place of a program is that of one of the tokens that spell it.
