@@ -1,6 +1,6 @@
 -- The tokens of a source begin inside it, each behind those before it.
-use Rattle.std.proofs.Common.{◌≡◌, ◌<◌, ◌≤◌, ℕ, ◌+◌, List, [], ◌∷◌, ◌++◌, length, take, Option, Some, None, Contains, refl, sym, ap, subst, ◌∙◌, arith}
-use Rattle.std.specs.List.{concat, filter, All, AllPairs}
+use Rattle.std.proofs.Common.{◌≡◌, ◌<◌, ◌≤◌, ℕ, zero, suc, ◌+◌, List, [], ◌∷◌, ◌++◌, length, take, Option, Some, None, Contains, refl, sym, ap, subst, ◌∙◌, arith}
+use Rattle.std.specs.List.{concat, filter, slice_get, All, AllPairs}
 use Rattle.std.specs.Str.{encode_utf8_all}
 use Rattle.std.specs.Str.Lossy.{utf8_valid_len}
 use Rattle.std.proofs.lemmas.List.{length-take-le}
@@ -12,11 +12,13 @@ use Rattle.hv_tree.specs.declared.token.TokenKind.{TokenKind}
 use Rattle.hv_tree.specs.declared.refusal.Refusal.{Refusal}
 use Rattle.hv_tree.specs.Tokens.{Tokens}
 use Rattle.hv_token.specs.Pieces.{kind_of, width}
-use Rattle.hv_token.specs.Lexes.{AreLongest, order_mark, body, tokens_at, tokens_from, begins_before, Lexes}
-use Rattle.hv_token.proofs.Cuts.{width_append, wide}
+use Rattle.hv_token.specs.Lexes.{AreLongest, order_mark, body, tokens_at, tokens_from, begins_before, most_bytes, Violates, too_long, ill_formed, no_piece, too_great, Lexes}
+use Rattle.hv_token.proofs.Cuts.{width_append, width_concat, wide, wide_some}
 use Rattle.hv_token.proofs.Lexing.{marked_whole}
 use Rattle.hv_places.specs.TokenPlaces.{Before, Rise}
-use Rattle.hv_lexed_places.specs.Inside.{LiesIn}
+use Rattle.hv_places.proofs.Each.{Each}
+use Rattle.hv_places.proofs.Counted.{Rises, rises}
+use Rattle.hv_lexed_places.specs.Inside.{LiesIn, BeginApart}
 
 -- the token begins between these bytes
 abbrev Within : ℕ → ℕ → Token → Type 0
@@ -57,8 +59,8 @@ tokens_rise bytes tokens stop h =
     let start = width (order_mark h.characters) in
     subst Rise (sym h.before) (AllPairs-filter Before (begins_before stop) (tokens_from start h.texts) (rise start h.texts h.rest h.cut.longest))
 
--- the pieces end inside the source
-pieces_end : (bytes : List ℕ) (tokens : Tokens) (stop : Option Refusal) (h : Lexes bytes tokens stop) → width (order_mark h.characters) + width (concat h.texts) ≤ length bytes
+-- the pieces, and what is left behind them, end inside the source
+pieces_end : (bytes : List ℕ) (tokens : Tokens) (stop : Option Refusal) (h : Lexes bytes tokens stop) → width (order_mark h.characters) + (width (concat h.texts) + width h.rest) ≤ length bytes
 pieces_end bytes tokens stop h =
     let n = utf8_valid_len bytes in
     let short : n ≤ length bytes = utf8_valid_len_le bytes in
@@ -74,3 +76,42 @@ tokens_begin bytes tokens stop h token i =
     let all : All P tokens = subst (All P) (sym h.before) (All-filter (begins_before stop) P (tokens_from start h.texts) (within start h.texts h.rest h.cut.longest)) in
     let at = All-contains P tokens token all i in
     omega (arith, at.1, pieces_end bytes tokens stop h)
+
+-- where a rule of tokens is violated, by the bytes that there are
+stop_at : (bytes : List ℕ) (start : ℕ) (texts : List (List ℕ)) (rest : List ℕ) (r : Refusal) → start + (width (concat texts) + width rest) ≤ length bytes → AreLongest texts rest → Violates bytes start texts rest r → LiesIn bytes r.place
+stop_at bytes start texts rest r h k (too_long l e) = subst (λ r. LiesIn bytes r.place) (sym e) (omega (arith, l))
+stop_at bytes start texts rest r h k (ill_formed l e) = subst (λ r. LiesIn bytes r.place) (sym e) l
+stop_at bytes start texts rest r h k (no_piece c cs i e) =
+    let some : 0 < width rest = subst (λ rest. 0 < width rest) (sym i) (wide_some c cs) in subst (λ r. LiesIn bytes r.place) (sym e) (omega (arith, some, h))
+stop_at bytes start texts rest r h k (too_great before text after i n g e) =
+    let longest : AreLongest (before ++ text ∷ after) rest = subst (λ texts. AreLongest texts rest) i k in
+    let all : width (concat texts) ≡ width (concat before) + width (concat (text ∷ after)) = ap (λ texts. width (concat texts)) i ∙ width_concat before (text ∷ after) in
+    let first : width (concat (text ∷ after)) ≡ width text + width (concat after) = width_append text (concat after) in
+    subst (λ r. LiesIn bytes r.place) (sym e) (omega (arith, all, first, wide_in before text after rest longest, h))
+  where
+    wide_in : (before : List (List ℕ)) (text : List ℕ) (after : List (List ℕ)) (rest : List ℕ) → AreLongest (before ++ text ∷ after) rest → 0 < width text
+    wide_in [] text after rest h = wide text h.0.piece
+    wide_in (b ∷ before) text after rest h = wide_in before text after rest h.1
+
+pub stop_lies : (bytes : List ℕ) (tokens : Tokens) (stop : Refusal) → Lexes bytes tokens (Some stop) → LiesIn bytes stop.place
+stop_lies bytes tokens stop h = stop_at bytes (width (order_mark h.characters)) h.texts h.rest stop (pieces_end bytes tokens (Some stop) h) h.cut.longest h.first.0
+
+-- ---- tokens that rise are apart
+
+same : (a b : Token) → Some a ≡ Some b → a ≡ b
+same a b e = cc
+
+behind : (k : Token) (ts : Tokens) → Each (Before k) ts → (n : ℕ) (b : Token) → slice_get ts n ≡ Some b → k.place.start < b.place.start
+behind k [] h n b e = absurd (cc)
+behind k (x ∷ ts) h zero b e = subst (Before k) (same x b e) h.0
+behind k (x ∷ ts) h (suc n) b e = behind k ts h.1 n b e
+
+apart : (ts : Tokens) → Rises ts → BeginApart ts
+apart [] h m n a b e f i = absurd (cc)
+apart (k ∷ ts) h zero zero a b e f i = refl
+apart (k ∷ ts) h zero (suc n) a b e f i = absurd (omega (arith, behind k ts h.0 n b f, ap (λ (t : Token). t.place.start) (same k a e), i))
+apart (k ∷ ts) h (suc m) zero a b e f i = absurd (omega (arith, behind k ts h.0 m a e, ap (λ (t : Token). t.place.start) (same k b f), i))
+apart (k ∷ ts) h (suc m) (suc n) a b e f i = ap suc (apart ts h.1 m n a b e f i)
+
+pub tokens_apart : (bytes : List ℕ) (tokens : Tokens) (stop : Option Refusal) → Lexes bytes tokens stop → BeginApart tokens
+tokens_apart bytes tokens stop h = apart tokens (rises tokens (tokens_rise bytes tokens stop h))

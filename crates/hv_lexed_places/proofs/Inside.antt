@@ -10,6 +10,7 @@ use Rattle.hv_tree.specs.Grammar.{Spells}
 use Rattle.hv_tree.specs.Core.{core_tree}
 use Rattle.hv_rules.specs.Names.{IsViolatedByNames}
 use Rattle.hv_rules.specs.TypeRules.{IsViolatedByTypes}
+use Rattle.hv_rules.specs.Rules.{IsViolatedByEvents}
 use Rattle.hv_token.specs.Lexes.{Lexes}
 use Rattle.hv_copying.specs.Node.{Node}
 use Rattle.hv_copying.specs.Meaning.{node_of}
@@ -19,6 +20,7 @@ use Rattle.hv_places.specs.TokenPlaces.{IsAmong}
 use Rattle.hv_places.specs.Ends.{EndApart}
 use Rattle.hv_places.proofs.NodesTell.{nodes_tell}
 use Rattle.hv_places.proofs.NamesTell.{names_tell_or_begin, types_tell}
+use Rattle.hv_places.proofs.EventsTell.{events_tell}
 use Rattle.hv_places.proofs.TreesSay.{places_said}
 use Rattle.hv_places.proofs.EndsFit.{bodies_apart}
 use Rattle.hv_lexed_places.specs.Inside.{LiesIn}
@@ -39,6 +41,9 @@ module _ (bytes : List ℕ) (tokens : Tokens) (stop : Option Refusal) (tree : Tr
 
   pub types_inside : (r : Rule) (place : Place) → IsViolatedByTypes (core_tree tree) r place → LiesIn bytes place
   types_inside r place v = places_inside place (types_tell (core_tree tree) r place v)
+
+  pub events_inside : (r : Rule) (place : Place) → IsViolatedByEvents (core_tree tree) r place → LiesIn bytes place
+  events_inside r place v = places_inside place (events_tell (core_tree tree) r place v)
 
   pub names_inside : (r : Rule) (place : Place) → IsViolatedByNames (core_tree tree) r place → LiesIn bytes place ⊎ ((r ≡ N3) × (place.start ≡ 0))
   names_inside r place v = by (names_tell_or_begin (core_tree tree) r place v)

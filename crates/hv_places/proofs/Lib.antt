@@ -18,3 +18,5 @@ pub mod TreesSay
 -- where bodies end
 pub mod Counted
 pub mod EndsFit
+-- examples
+mod Examples
