@@ -160,9 +160,10 @@ module _ (P : Place → Type 0) where
           let q = each_split P (in_expr x) (in_args rest) h in
           (expr_tells (given way (next_conv callee)) (given_there way (next_conv callee)) x q.0, close_tells way (opens_place tree locals way (next_conv callee) x) at p _ (args_tell way at p (other_convs callee) rest q.1))
       args_tell way at p callee (RefArg mark root steps rest) h =
-          let q = each_split P (in_steps steps) (in_args rest) h.1.1 in
-          ((steps_tell steps q.0, root_tells (lent (next_conv callee)) (lent_there (next_conv callee)) (number_in locals root.text) root steps h.1.0),
-            close_tells way (is_local tree locals (number_in locals root.text)) at p _ (args_tell way at p (other_convs callee) rest q.1))
+          let q = each_split P (in_steps steps) (in_args rest) h.1.1 in (
+            (steps_tell steps q.0, root_tells (lent (next_conv callee)) (lent_there (next_conv callee)) (number_in locals root.text) root steps h.1.0),
+            close_tells way (is_local tree locals (number_in locals root.text)) at p _ (args_tell way at p (other_convs callee) rest q.1),
+          )
 
     value_tells : (x : CoreExpr) → Each P (in_expr x) → EventsTell (value_events tree locals x)
     value_tells x h = expr_tells uses uses_there x h
@@ -231,9 +232,10 @@ module _ (P : Place → Type 0) where
 
   body_tells : (tree : Core) (body : CoreBody) → BodyTells P body → EventsTell (body_events tree body)
   body_tells tree body h =
-      let q = parts_of body.block h.1 in
-      (entries_tell 0 (entry_locals body) (each_split (LocalTells P) (entry_locals body) (declared_in_block body.block) h.0).0,
-        (stmts_tell tree (locals_of body) (body_around body) (stmts_in body.block) q.0, q.1))
+      let q = parts_of body.block h.1 in (
+        entries_tell 0 (entry_locals body) (each_split (LocalTells P) (entry_locals body) (declared_in_block body.block) h.0).0,
+        (stmts_tell tree (locals_of body) (body_around body) (stmts_in body.block) q.0, q.1),
+      )
 
   -- ---- the rules
 

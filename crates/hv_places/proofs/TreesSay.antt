@@ -147,10 +147,12 @@ module _ (P : Place → Type 0) where
         let q = split a (mark (codes "]") c1 ∷ mark (codes "(") o2 ∷ (b ++ mark (codes ")") c2 ∷ (c ++ d))) o.1.1 in
         let r = split b (mark (codes ")") c2 ∷ (c ++ d)) q.1.1.1 in
         let t = split c d r.1.1 in
-        said x at _ _ is (core_lambda at captures params result body) o.0
-        (o.0, each_join P (in_names captures) (in_params (map core_param params) ++ (in_result (core_option_ty result) ++ in_block (core_block body))) (of_names P captures a hn q.0)
-        (each_join P (in_params (map core_param params)) (in_result (core_option_ty result) ++ in_block (core_block body)) (of_params P params b hp r.0)
-        (each_join P (in_result (core_option_ty result)) (in_block (core_block body)) (of_return P result c hr t.0) (of_block body d hb t.1))))
+        said x at _ _ is (core_lambda at captures params result body) o.0 (
+          o.0,
+          each_join P (in_names captures) (in_params (map core_param params) ++ (in_result (core_option_ty result) ++ in_block (core_block body))) (of_names P captures a hn q.0)
+              (each_join P (in_params (map core_param params)) (in_result (core_option_ty result) ++ in_block (core_block body)) (of_params P params b hp r.0)
+              (each_join P (in_result (core_option_ty result)) (in_block (core_block body)) (of_return P result c hr t.0) (of_block body d hb t.1))),
+        )
 
     of_elements : (xs : List Expr) (ts : Tokens) → AreElements xs ts → Ats P ts → ExprsSay xs
     of_elements xs ts (one_element x h is) s = subst ExprsSay (sym is) (each_join P (in_expr (core_of x)) [] (of_level _ x ts h s).1 tt)
@@ -173,9 +175,11 @@ module _ (P : Place → Type 0) where
     of_call at c ts (is_call root steps paren right args a b h k place is e) s =
         let o = subst (Ats P) e s in
         let q = split a (mark (codes "(") paren ∷ (b ++ mark (codes ")") right ∷ [])) o.1 in
-        let t = split b (mark (codes ")") right ∷ []) q.1.1 in
-        (subst P (sym place) o.0, subst (λ c. Each P (in_call c)) (sym (ap core_call is ∙ core_called root steps paren args))
-        (o.0, each_join P (in_steps (core_steps steps)) (paren ∷ in_args (core_args args)) (of_steps steps a h q.0) (q.1.0, of_args args b k t.0)))
+        let t = split b (mark (codes ")") right ∷ []) q.1.1 in (
+          subst P (sym place) o.0,
+          subst (λ c. Each P (in_call c)) (sym (ap core_call is ∙ core_called root steps paren args))
+              (o.0, each_join P (in_steps (core_steps steps)) (paren ∷ in_args (core_args args)) (of_steps steps a h q.0) (q.1.0, of_args args b k t.0)),
+        )
 
     of_args : (args : List Arg) (ts : Tokens) → AreArgs args ts → Ats P ts → ArgsSay args
     of_args args ts (none_args is e) s = subst ArgsSay (sym is) tt
@@ -247,9 +251,14 @@ module _ (P : Place → Type 0) where
         let q = subst (Ats P) e s in
         let r = split a (mark (codes "=") equals ∷ keyword (codes "spawn") spawn ∷ mark (codes "(") left ∷ (b ++ mark (codes ")") right ∷ d)) q.1.1 in
         let t = split b (mark (codes ")") right ∷ d) r.1.1.1.1 in
-        stated x _ (ap core_stmt is ∙ core_task at name result spawn budget c)
-        (q.0, (q.1.0, each_join P (in_result (core_option_ty result)) (spawn ∷ (in_expr (core_of budget) ++ in_call (core_call c))) (of_task_type P result a h r.0)
-        (r.1.1.0, each_join P (in_expr (core_of budget)) (in_call (core_call c)) (of_level _ budget b k t.0).1 (of_call first c d m t.1.1).1)))
+        stated x _ (ap core_stmt is ∙ core_task at name result spawn budget c) (
+          q.0,
+          (
+            q.1.0,
+            each_join P (in_result (core_option_ty result)) (spawn ∷ (in_expr (core_of budget) ++ in_call (core_call c))) (of_task_type P result a h r.0)
+                (r.1.1.0, each_join P (in_expr (core_of budget)) (in_call (core_call c)) (of_level _ budget b k t.0).1 (of_call first c d m t.1.1).1),
+          ),
+        )
     of_stmt x ts (await_stmt at name is e) s = stated x _ (ap core_stmt is ∙ core_awaits_alone at name) (subst (Ats P) e s)
     of_stmt x ts (call_stmt at c h is) s = stated x _ (ap core_stmt is ∙ core_calls_alone at c) (of_call at c ts h s)
     of_stmt x ts (block_stmt left b a h e is) s = stated x _ (ap core_stmt is ∙ core_bare left b) ((subst (Ats P) e s).0, of_block b ts h s)
@@ -257,24 +266,30 @@ module _ (P : Place → Type 0) where
     of_branches : (at : Place) (branches : List Branch) (otherwise : Option Block) (ts : Tokens) → AreBranches at branches otherwise ts → Ats P ts → P at × BranchesSay branches otherwise
     of_branches at branches otherwise ts (last_branch test body a b h k is none e) s =
         let o = subst (Ats P) e s in
-        let q = split a b o.1 in
-        (o.0, subst (λ c. Each P (in_branches c)) (sym (ap (λ l. core_branches l otherwise) is ∙ core_test test body (core_option_block otherwise)))
-        (each_join P (in_expr (core_of test)) (in_block (core_block body) ++ in_branches (core_option_block otherwise)) (of_level _ test a h q.0).1
-        (each_join P (in_block (core_block body)) (in_branches (core_option_block otherwise)) (of_block body b k q.1) (subst (λ o. Each P (in_branches (core_option_block o))) (sym none) tt))))
+        let q = split a b o.1 in (
+          o.0,
+          subst (λ c. Each P (in_branches c)) (sym (ap (λ l. core_branches l otherwise) is ∙ core_test test body (core_option_block otherwise)))
+              (each_join P (in_expr (core_of test)) (in_block (core_block body) ++ in_branches (core_option_block otherwise)) (of_level _ test a h q.0).1
+              (each_join P (in_block (core_block body)) (in_branches (core_option_block otherwise)) (of_block body b k q.1) (subst (λ o. Each P (in_branches (core_option_block o))) (sym none) tt))),
+        )
     of_branches at branches otherwise ts (last_else_branch test body final else a b c h k m is some e) s =
         let o = subst (Ats P) e s in
         let q = split a (b ++ keyword (codes "else") else ∷ c) o.1 in
-        let r = split b (keyword (codes "else") else ∷ c) q.1 in
-        (o.0, subst (λ c. Each P (in_branches c)) (sym (ap (λ l. core_branches l otherwise) is ∙ core_test test body (core_option_block otherwise)))
-        (each_join P (in_expr (core_of test)) (in_block (core_block body) ++ in_branches (core_option_block otherwise)) (of_level _ test a h q.0).1
-        (each_join P (in_block (core_block body)) (in_branches (core_option_block otherwise)) (of_block body b k r.0) (subst (λ o. Each P (in_branches (core_option_block o))) (sym some) (of_block final c m r.1.1)))))
+        let r = split b (keyword (codes "else") else ∷ c) q.1 in (
+          o.0,
+          subst (λ c. Each P (in_branches c)) (sym (ap (λ l. core_branches l otherwise) is ∙ core_test test body (core_option_block otherwise)))
+              (each_join P (in_expr (core_of test)) (in_block (core_block body) ++ in_branches (core_option_block otherwise)) (of_level _ test a h q.0).1
+              (each_join P (in_block (core_block body)) (in_branches (core_option_block otherwise)) (of_block body b k r.0) (subst (λ o. Each P (in_branches (core_option_block o))) (sym some) (of_block final c m r.1.1)))),
+        )
     of_branches at branches otherwise ts (more_branch test body else next rest a b c h k m is e) s =
         let o = subst (Ats P) e s in
         let q = split a (b ++ keyword (codes "else") else ∷ c) o.1 in
-        let r = split b (keyword (codes "else") else ∷ c) q.1 in
-        (o.0, subst (λ c. Each P (in_branches c)) (sym (ap (λ l. core_branches l otherwise) is ∙ core_test test body (core_branches rest otherwise)))
-        (each_join P (in_expr (core_of test)) (in_block (core_block body) ++ in_branches (core_branches rest otherwise)) (of_level _ test a h q.0).1
-        (each_join P (in_block (core_block body)) (in_branches (core_branches rest otherwise)) (of_block body b k r.0) (of_branches next rest otherwise c m r.1.1).1)))
+        let r = split b (keyword (codes "else") else ∷ c) q.1 in (
+          o.0,
+          subst (λ c. Each P (in_branches c)) (sym (ap (λ l. core_branches l otherwise) is ∙ core_test test body (core_branches rest otherwise)))
+              (each_join P (in_expr (core_of test)) (in_block (core_block body) ++ in_branches (core_branches rest otherwise)) (of_level _ test a h q.0).1
+              (each_join P (in_block (core_block body)) (in_branches (core_branches rest otherwise)) (of_block body b k r.0) (of_branches next rest otherwise c m r.1.1).1)),
+        )
 
   -- ---- declarations
 
@@ -294,9 +309,11 @@ module _ (P : Place → Type 0) where
       let q = (subst (Ats P) e s).1 in
       let r = split a (mark (codes ")") right ∷ (b ++ c)) q.1.1 in
       let t = split b c r.1.1 in
-      subst (λ d. Each P (in_decl (core_decl d))) (sym is)
-      (q.0, each_join P (in_params (map core_param params)) (in_result (core_option_ty result) ++ in_block (core_block body)) (of_params P params a hp r.0)
-      (each_join P (in_result (core_option_ty result)) (in_block (core_block body)) (of_return P result b hr t.0) (of_block body c hb t.1)))
+      subst (λ d. Each P (in_decl (core_decl d))) (sym is) (
+        q.0,
+        each_join P (in_params (map core_param params)) (in_result (core_option_ty result) ++ in_block (core_block body)) (of_params P params a hp r.0)
+            (each_join P (in_result (core_option_ty result)) (in_block (core_block body)) (of_return P result b hr t.0) (of_block body c hb t.1)),
+      )
 
   of_decls : (ds : List Decl) (ts : Tokens) → AreDecls ds ts → Ats P ts → Each P (in_decls (map core_decl ds))
   of_decls ds ts (no_decls is e) s = subst (λ ds. Each P (in_decls (map core_decl ds))) (sym is) tt
