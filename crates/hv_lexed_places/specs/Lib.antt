@@ -1,0 +1,2 @@
+-- places inside a source
+pub mod Inside
