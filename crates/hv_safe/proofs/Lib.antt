@@ -11,7 +11,6 @@ pub mod Pieces
 pub mod Constructs
 pub mod Parts
 pub mod Theorem
-pub mod CoreParts
 pub mod Comes
 pub mod Braces
 pub mod Spelled

@@ -29,8 +29,8 @@ use Rattle.hv_rules.specs.Sites.{sites_of, bodies_of}
 use Rattle.hv_rules.specs.Events.{end_of}
 use Rattle.hv_judge.proofs.Members.{listed}
 use Rattle.hv_safe.specs.Formed.{level_of, MayGoOn, AreOfLevel, HasElement, IsBody, IsFormed, AreApart}
-use Rattle.hv_safe.proofs.CoreParts.{core_int, core_truth, core_path_expr, core_calls, core_awaits, core_array, core_filled, core_count, core_lambda, core_prefix, core_chain, core_called, core_ref, core_body, core_test}
-use Rattle.hv_safe.proofs.CoreParts.{core_var, core_var_with, core_let, core_inout, core_assign, core_if, core_while, core_return, core_return_with, core_print, core_task, core_awaits_alone, core_calls_alone, core_bare}
+use Rattle.hv_places.proofs.CoreParts.{core_int, core_truth, core_path_expr, core_calls, core_awaits, core_array, core_filled, core_count, core_lambda, core_prefix, core_chain, core_called, core_ref, core_body, core_test}
+use Rattle.hv_places.proofs.CoreParts.{core_var, core_var_with, core_let, core_inout, core_assign, core_if, core_while, core_return, core_return_with, core_print, core_task, core_awaits_alone, core_calls_alone, core_bare}
 use Rattle.hv_safe.proofs.Comes.{Comes, none, skip, take_one, join, front, back, and_none, last_first, drop_first, each_once}
 use Rattle.hv_safe.proofs.Braces.{form_expr, form_exprs, form_links, form_steps, form_call, form_args, form_block, form_stmts, form_branches, form_stmt, form_decls, formed_among, at_decls, end_at, ends_expr, ends_exprs, ends_links, ends_steps, ends_call, ends_args, ends_block, ends_stmts, ends_branches, ends_stmt, ends_decls, body_end, of_decls}
 
