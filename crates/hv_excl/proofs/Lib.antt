@@ -1,0 +1,8 @@
+-- lists
+pub mod Opened
+-- what the words of a plan tell
+pub mod Telling
+pub mod Clashing
+pub mod Refusing
+pub mod Judging
+pub mod Firsts

@@ -1,0 +1,6 @@
+-- what the contract rests on
+pub mod Violations
+-- what the functions inside promise each other
+pub mod Clashes
+pub mod Told
+pub mod Judged

@@ -1,0 +1,80 @@
+// The acts of a plan, in one pass over its words.
+ghost use Rattle.std.specs.Prelude.{◌≡◌, [], None, IfOk};
+ghost use Rattle.hv_excl.specs.Clashes.{accesses_by};
+ghost use Rattle.hv_excl.specs.Judged as spec;
+
+use crate::clash::refused_at;
+use crate::open::{OpenAccess, pass_event};
+use crate::told::{declares, told};
+use hv_items::Items;
+use hv_pass::{Act, PassOp, Range};
+use hv_plan::FlowOp;
+use hv_tree::Refusal;
+use std::alloc::{AllocError as NoMemory, Global};
+
+// No act sets the cell, so that it is refused wherever it is reached.
+fn acts(alloc: Global, refusal: Option<Refusal>) -> Result<Items<Act>, NoMemory>
+    ensures { IfOk result (λ acts. acts ≡ spec.acts_of refusal) }
+{
+    let mut acts = Items::new(alloc);
+    if let Some(refusal) = refusal {
+        let cell = Range { from: 0, count: 1 };
+        acts.push(Act::Refuse(cell, false, refusal))?;
+    }
+    Ok(acts)
+}
+
+fn judge_word(
+    alloc: Global,
+    opened: &[OpenAccess<'_>],
+    word: &FlowOp,
+    binding: Option<u32>,
+) -> Result<PassOp, NoMemory>
+    ensures { IfOk result (λ o. o ≡ spec.judged_op binding (accesses_by opened.now) word.now) }
+{
+    Ok(match word {
+        FlowOp::Skip => PassOp::Skip,
+        FlowOp::Do(event, place) => {
+            PassOp::Do(acts(alloc, refused_at(opened, event, binding, *place))?)
+        }
+        FlowOp::Stop(event, place) => {
+            PassOp::Stop(acts(alloc, refused_at(opened, event, binding, *place))?)
+        }
+        FlowOp::Then => PassOp::Then,
+        FlowOp::Either => PassOp::Either,
+        FlowOp::Loop => PassOp::Loop,
+    })
+}
+
+fn pass_word<'p>(
+    alloc: Global,
+    opened: Items<OpenAccess<'p>>,
+    word: &'p FlowOp,
+    binding: Option<u32>,
+) -> Result<Items<OpenAccess<'p>>, NoMemory>
+    ensures { IfOk result (λ now. accesses_by now ≡ spec.open_op binding word.now (accesses_by opened.entry)) }
+{
+    match word {
+        FlowOp::Do(event, _) | FlowOp::Stop(event, _) => pass_event(alloc, opened, event, binding),
+        FlowOp::Skip | FlowOp::Then | FlowOp::Either | FlowOp::Loop => Ok(opened),
+    }
+}
+
+/// The plan of the acts of a body's plan. It takes time in proportion to the words times the accesses
+/// that are open at them.
+pub fn judge(alloc: Global, plan: &[FlowOp]) -> Result<Items<PassOp>, NoMemory>
+    ensures { IfOk result (λ acts. acts ≡ spec.judged None [] plan.now) }
+{
+    let mut judged = Items::new(alloc);
+    let mut opened = Items::new(alloc);
+    let mut before = None;
+    let mut left = plan;
+    while let [word, rest @ ..] = left {
+        let binding = told(before, word, rest);
+        judged.push(judge_word(alloc, opened.as_slice(), word, binding)?)?;
+        opened = pass_word(alloc, opened, word, binding)?;
+        before = declares(word);
+        left = rest;
+    }
+    Ok(judged)
+}

@@ -1,0 +1,2 @@
+-- what the meaning calls it
+pub mod Seen

@@ -1,0 +1,6 @@
+pub mod Runs
+pub mod LinkLemmas
+pub mod PlaceLemmas
+pub mod OperandLemmas
+pub mod CaptureLemmas
+pub mod FillLemmas

@@ -1,0 +1,2 @@
+-- what is said of the root
+pub mod Root

@@ -1,0 +1,2 @@
+-- the texts
+pub mod Lines
