@@ -4,4 +4,4 @@
 set -eu
 cd "$(dirname "$0")/.."
 . bench/sources.sh
-measure show 131072 262144 524288
+measure show 'ordinary chain block elses' 131072 262144 524288

@@ -6,11 +6,15 @@ use std::test::Fail;
 fn a_source_is_accepted_or_refused_at_its_place(rt: HostRuntime) -> Result<(), Fail> {
     let alloc = rt.alloc();
     assert!(rt; check(alloc, b"fun main() { print(1) }", Edition::One).is_ok());
-    let rows: [(&[u8], Rule, u32); 4] = [
+    let rows: [(&[u8], Rule, u32); 8] = [
         (b"fun main() { print(1 2 @) }", Rule::P1, 21),
         (b"fun main() { print(1 @) }", Rule::L2, 21),
         (b"fun main() {", Rule::P1, 12),
         (b"fun main() { print(9223372036854775808) }", Rule::L3, 19),
+        (b"", Rule::N3, 0),
+        (b"fun main() { print(y) }", Rule::N2, 19),
+        (b"fun main() { print(true + 1) print(y) }", Rule::N2, 35),
+        (b"fun main() { print(true + 1) }", Rule::T1, 19),
     ];
     for (source, rule, start) in rows {
         match check(alloc, source, Edition::One) {

@@ -1,10 +1,9 @@
 -- The answer and its causes.
-use Rattle.std.proofs.Common.{◌≡◌, ℕ, List, Option, Some, refl, sym, ◌∙◌, inl, inr, subst}
+use Rattle.std.proofs.Common.{◌≡◌, ℕ, List, Option, refl, sym, ◌∙◌, inl, inr, subst}
 use Rattle.std.specs.Prelude.{Bool, true, false, IsTrue, ◌↔◌}
 use Rattle.hv_words.specs.Taken.{Asked, Taken, Word}
 use Rattle.hv_ports.specs.Causes.{Rose}
-use Rattle.hv_meaning.specs.declared.node.End.{End}
-use Rattle.hv_meaning.specs.declared.node.End.TheVariants as end
+use Rattle.hv_copying.specs.Node.{End, Done, Trapped, SpentAt, end_of}
 use Rattle.hv_driver.specs.declared.status.Status.{Status}
 use Rattle.hv_driver.specs.declared.status.Status.TheVariants.{Usage, SourceFault, SinkFault, NoMemory}
 use Rattle.hv_driver.specs.Delivers.{Delivers}
@@ -20,16 +19,16 @@ IsOrdinary Usage = ⊥
 IsOrdinary _ = Unit {0}
 
 end_ordinary : (e : End) → IsOrdinary (status_of e)
-end_ordinary end.Done = tt
-end_ordinary (end.Trap k p) = tt
-end_ordinary (end.Spent p) = tt
+end_ordinary (Done v) = tt
+end_ordinary (Trapped k p id) = tt
+end_ordinary (SpentAt p id) = tt
 
 pub answer_ordinary : (asked : Asked) (bytes : List ℕ) (status : Status) (text : List ℕ) → Answers asked bytes status text → IsOrdinary status
 answer_ordinary asked bytes status text (refused r f e t) = subst IsOrdinary (sym e) tt
 answer_ordinary asked bytes status text (checked tree a q e t) = subst IsOrdinary (sym e) tt
 answer_ordinary asked bytes status text (shown tree a q e t) = subst IsOrdinary (sym e) tt
 answer_ordinary asked bytes status text (unready tree steps trace a q n e t) = subst IsOrdinary (sym e) tt
-answer_ordinary asked bytes status text (ran tree steps trace node a q r n e t) = subst IsOrdinary (sym e) (end_ordinary node.end)
+answer_ordinary asked bytes status text (ran tree steps trace node a q r n e t) = subst IsOrdinary (sym e) (end_ordinary (end_of node))
 
 pub no_source_fault : (status result : Status) (text : List ℕ) (a b : Option (List ℕ)) (f g : ℕ) → IsOrdinary status → Delivers status result text a b f g → result ≡ SourceFault → ⊥
 no_source_fault status result text a b f g o (inl h) e = subst IsOrdinary (sym h.0 ∙ e) o

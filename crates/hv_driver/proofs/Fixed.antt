@@ -1,16 +1,15 @@
 -- For an order and the bytes of its file there is one answer at most.
-use Rattle.std.proofs.Common.{◌≡◌, ℕ, Bool, false, List, [], ◌∷◌, ◌++◌, Option, Some, None, refl, sym, ◌∙◌, ap, subst}
-use Rattle.hv_tree.specs.declared.refusal.Refusal.{Refusal}
+use Rattle.std.proofs.Common.{◌≡◌, ℕ, Bool, false, List, Option, Some, None, sym, ◌∙◌, ap, subst}
 use Rattle.hv_tree.specs.declared.ast.Tree.{Tree}
+use Rattle.hv_tree.specs.Core.{core_tree}
 use Rattle.hv_tree.specs.Printed.{Printed}
 use Rattle.hv_words.specs.Taken.{Asked, check, show}
-use Rattle.hv_check.specs.Checks.{IsAccepted, IsFirst}
 use Rattle.hv_check.proofs.Sources.{first_once, accepted_once, not_both}
-use Rattle.hv_meaning.specs.declared.node.TaskNode.{TaskNode}
-use Rattle.hv_meaning.specs.Meaning.{node_of}
-use Rattle.hv_meaning.specs.Runs.{Runs}
+use Rattle.hv_copying.specs.Node.{Node, end_of}
+use Rattle.hv_copying.specs.Meaning.{node_of}
+use Rattle.hv_safe.specs.Runs.{Runs}
 use Rattle.hv_driver.specs.declared.status.Status.{Status}
-use Rattle.hv_driver.specs.Report.{refusal_line, report_of}
+use Rattle.hv_report.specs.Lines.{refusal_line, report_of}
 use Rattle.hv_driver.specs.Answer.{Answers, refused, checked, shown, unready, ran, IsCheck, IsShow, run_of, status_of}
 
 no_run_of_check : (asked : Asked) (p : ℕ × Bool) → IsCheck asked → run_of asked ≡ Some p → ⊥
@@ -22,8 +21,8 @@ no_run_of_show asked p q e = let h : None ≡ Some p = sym (ap run_of q.1) ∙ e
 no_check_and_show : (asked : Asked) → IsCheck asked → IsShow asked → ⊥
 no_check_and_show asked p q = let h : check p.0 ≡ show q.0 = sym p.1 ∙ q.1 in cc
 
-same_node : (tree other : Tree) (steps more : ℕ) (node n : TaskNode) → other ≡ tree → more ≡ steps → node_of tree steps ≡ Some node → node_of other more ≡ Some n → n ≡ node
-same_node tree other steps more node n e f a b = let h : Some n ≡ Some node = sym b ∙ ap (λ t. node_of t more) e ∙ ap (node_of tree) f ∙ a in cc
+same_node : (tree other : Tree) (steps more : ℕ) (node n : Node) → other ≡ tree → more ≡ steps → node_of (core_tree tree) steps ≡ Some node → node_of (core_tree other) more ≡ Some n → n ≡ node
+same_node tree other steps more node n e f a b = let h : Some n ≡ Some node = sym b ∙ ap (λ t. node_of (core_tree t) more) e ∙ ap (node_of (core_tree tree)) f ∙ a in cc
 
 abbrev steps_in : Option (ℕ × Bool) → ℕ
 steps_in None = 0
@@ -57,14 +56,14 @@ module _ (asked : Asked) (bytes : List ℕ) where
   answers_once s s' t t' (unready u n b a q m e w) (checked u' a' q' e' w') = absurd (no_run_of_check asked (n, b) q' q)
   answers_once s s' t t' (unready u n b a q m e w) (shown u' a' q' e' w') = absurd (no_run_of_show asked (n, b) q' q)
   answers_once s s' t t' (unready u n b a q m e w) (unready u' n' b' a' q' m' e' w') = (e' ∙ sym e, w' ∙ sym w)
-  answers_once s s' t t' (unready u n b a q m e w) (ran u' n' b' k a' q' r o e' w') = absurd (m (subst Runs (accepted_once bytes u u' a a') r))
+  answers_once s s' t t' (unready u n b a q m e w) (ran u' n' b' k a' q' r o e' w') = absurd (m (subst (λ t. Runs (core_tree t)) (accepted_once bytes u u' a a') r))
   answers_once s s' t t' (ran u n b k a q r o e w) (refused r' f e' w') = absurd (not_both bytes r' u f a)
   answers_once s s' t t' (ran u n b k a q r o e w) (checked u' a' q' e' w') = absurd (no_run_of_check asked (n, b) q' q)
   answers_once s s' t t' (ran u n b k a q r o e w) (shown u' a' q' e' w') = absurd (no_run_of_show asked (n, b) q' q)
-  answers_once s s' t t' (ran u n b k a q r o e w) (unready u' n' b' a' q' m e' w') = absurd (m (subst Runs (sym (accepted_once bytes u u' a a')) r))
+  answers_once s s' t t' (ran u n b k a q r o e w) (unready u' n' b' a' q' m e' w') = absurd (m (subst (λ t. Runs (core_tree t)) (sym (accepted_once bytes u u' a a')) r))
   answers_once s s' t t' (ran u n b k a q r o e w) (ran u' n' b' k' a' q' r' o' e' w') =
       let p : Some (n', b') ≡ Some (n, b) = sym q' ∙ q in
       let steps : n' ≡ n = ap steps_in p in
       let trace : b' ≡ b = ap trace_in p in
       let node = same_node u u' n n' k k' (accepted_once bytes u u' a a') steps o o' in
-      (e' ∙ ap (λ (k : TaskNode). status_of k.end) node ∙ sym e, w' ∙ ap (λ k. report_of bytes k b') node ∙ ap (report_of bytes k) trace ∙ sym w)
+      (e' ∙ ap (λ k. status_of (end_of k)) node ∙ sym e, w' ∙ ap (λ k. report_of bytes k b') node ∙ ap (report_of bytes k) trace ∙ sym w)

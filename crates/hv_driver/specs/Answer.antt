@@ -2,17 +2,17 @@
 use Rattle.std.specs.Prelude.{◌≡◌, ℕ, Bool, List, [], ◌∷◌, ◌++◌, Option, Some, None, codes, ⊤}
 use Rattle.hv_tree.specs.declared.refusal.Refusal.{Refusal}
 use Rattle.hv_tree.specs.declared.ast.Tree.{Tree}
+use Rattle.hv_tree.specs.Core.{core_tree}
 use Rattle.hv_tree.specs.Printed.{Printed}
 use Rattle.hv_words.specs.Taken.{Asked, check, show, plain, run}
 use Rattle.hv_check.specs.Checks.{IsAccepted, IsFirst}
-use Rattle.hv_meaning.specs.declared.node.TaskNode.{TaskNode}
-use Rattle.hv_meaning.specs.declared.node.End.{End}
-use Rattle.hv_meaning.specs.declared.node.End.TheVariants as end
-use Rattle.hv_meaning.specs.Meaning.{node_of}
-use Rattle.hv_meaning.specs.Runs.{Runs}
+use Rattle.hv_copying.specs.Node.{Node, End, end_of}
+use Rattle.hv_copying.specs.Node as node
+use Rattle.hv_copying.specs.Meaning.{node_of}
+use Rattle.hv_safe.specs.Runs.{Runs}
+use Rattle.hv_report.specs.Lines.{refusal_line, report_of}
 use Rattle.hv_driver.specs.declared.status.Status.{Status}
 use Rattle.hv_driver.specs.declared.status.Status.TheVariants.{Done, Refused, Trapped, Spent, SourceFault, NoMemory}
-use Rattle.hv_driver.specs.Report.{refusal_line, report_of}
 use Rattle.hv_driver.specs.Delivers.{Delivers}
 use Rattle.hv_driver.specs.Took.{ReadsFile}
 
@@ -20,9 +20,9 @@ abbrev pub usage_line : List ℕ
 usage_line = codes "usage: hv check|show|plain|run|replay|gen" ++ 10 ∷ []
 
 abbrev pub status_of : End → Status
-status_of end.Done = Done
-status_of (end.Trap kind place) = Trapped
-status_of (end.Spent place) = Spent
+status_of (node.Done value) = Done
+status_of (node.Trapped kind place id) = Trapped
+status_of (node.SpentAt place id) = Spent
 
 -- ---- orders
 
@@ -53,12 +53,12 @@ pub data Answers (asked : Asked) (bytes : List ℕ) (status : Status) (text : Li
   refused : (refusal : Refusal) → IsFirst bytes refusal → status ≡ Refused → text ≡ refusal_line bytes refusal → Answers asked bytes status text
   checked : (tree : Tree) → IsAccepted bytes tree → IsCheck asked → status ≡ Done → text ≡ codes "accepted" ++ 10 ∷ [] → Answers asked bytes status text
   shown : (tree : Tree) → IsAccepted bytes tree → IsShow asked → status ≡ Done → text ≡ Printed tree → Answers asked bytes status text
-  -- there is no meaning yet for this program
-  unready : (tree : Tree) (steps : ℕ) (trace : Bool) → IsAccepted bytes tree → run_of asked ≡ Some (steps, trace) → (Runs tree → ⊥) →
+  -- this program doesn't run yet
+  unready : (tree : Tree) (steps : ℕ) (trace : Bool) → IsAccepted bytes tree → run_of asked ≡ Some (steps, trace) → (Runs (core_tree tree) → ⊥) →
       status ≡ Refused → text ≡ codes "refused U1 at 1:1" ++ 10 ∷ [] → Answers asked bytes status text
   -- the report of the run that the meaning gives
-  ran : (tree : Tree) (steps : ℕ) (trace : Bool) (node : TaskNode) → IsAccepted bytes tree → run_of asked ≡ Some (steps, trace) → Runs tree → node_of tree steps ≡ Some node →
-      status ≡ status_of node.end → text ≡ report_of bytes node trace → Answers asked bytes status text
+  ran : (tree : Tree) (steps : ℕ) (trace : Bool) (node : Node) → IsAccepted bytes tree → run_of asked ≡ Some (steps, trace) → Runs (core_tree tree) → node_of (core_tree tree) steps ≡ Some node →
+      status ≡ status_of (end_of node) → text ≡ report_of bytes node trace → Answers asked bytes status text
 
 -- the bytes of the file were read, and the sink got the answer for them
 pub record AnswersFile (asked : Asked) (told left : Option (List ℕ)) (result : Status) (before after : Option (List ℕ)) (faults now : ℕ) : Type 0 where

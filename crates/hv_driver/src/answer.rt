@@ -1,24 +1,28 @@
 // The status and the text for an order and the bytes of its file.
 ghost use Rattle.std.specs.Prelude.{◌≡◌, ◌≤◌, Some, length, IfOk};
+ghost use Rattle.hv_node.specs.Seen.{end_seen};
 ghost use Rattle.hv_check.specs.Checks.{IsAccepted};
 ghost use Rattle.hv_words.specs.Taken.{Asked};
 ghost use Rattle.hv_words.specs.Answers.{asked_of};
 ghost use Rattle.hv_driver.specs.Answer.{Answers, status_of, run_of};
 
 use crate::Status;
-use crate::report::{refusal_line, report};
 use hv_check::{CheckEnd, check};
-use hv_meaning::{End, plain, runs, runs_are_safe};
+use hv_checked_laws::accepted_programs_are_safe;
+use hv_node::End;
+use hv_plain::plain;
 use hv_print::print;
+use hv_report::{refusal_line, report};
+use hv_runs::runs;
 use hv_tree::{Edition, Tree};
 use hv_words::Order;
 use std::alloc::{AllocError, Global};
 
-fn status_of(end: End) -> Status
-    ensures { result ≡ status_of end }
+fn status_of(end: &End) -> Status
+    ensures { result ≡ status_of (end_seen end.now) }
 {
     match end {
-        End::Done => Status::Done,
+        End::Done(_) => Status::Done,
         End::Trap(..) => Status::Trapped,
         End::Spent(_) => Status::Spent,
     }
@@ -40,10 +44,10 @@ fn run(
         let text = Vec::from_slice(alloc, b"refused U1 at 1:1\n")?;
         return Ok((Status::Refused, text));
     }
-    runs_are_safe();
+    accepted_programs_are_safe();
     let node = plain(alloc, tree, steps)?;
     let text = report(alloc, source, &node, trace)?;
-    Ok((status_of(node.end), text))
+    Ok((status_of(&node.end), text))
 }
 
 /// The whole text is there before any of it is written.

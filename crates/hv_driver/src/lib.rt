@@ -4,7 +4,6 @@
 mod answer;
 mod law;
 mod read;
-mod report;
 mod status;
 mod top;
 mod write;

@@ -22,12 +22,16 @@ fn repeated(
 #[test]
 fn long_chains_blocks_and_branches_are_accepted(rt: HostRuntime) -> Result<(), Fail> {
     let alloc = rt.alloc();
-    let rows: [(&[u8], &[u8], usize, &[u8]); 5] = [
+    let rows: [(&[u8], &[u8], usize, &[u8]); 4] = [
         (b"fun main() { print(1", b"+1", 299_999, b") }"),
-        (b"fun main() {", b" f()", 100_000, b" }"),
-        (b"fun main() { if a { }", b" else if a { }", 50_000, b" }"),
-        (b"fun main() { f(1", b", 1", 200_000, b") }"),
-        (b"", b"fun f() { } ", 80_000, b""),
+        (b"fun f() { } fun main() {", b" f()", 100_000, b" }"),
+        (
+            b"fun main() { let a: Bool = true if a { }",
+            b" else if a { }",
+            50_000,
+            b" }",
+        ),
+        (b"fun main() { print([1", b", 1", 200_000, b"]) }"),
     ];
     for (head, part, times, tail) in rows {
         let text = repeated(alloc, head, part, times, tail)?;
@@ -36,6 +40,21 @@ fn long_chains_blocks_and_branches_are_accepted(rt: HostRuntime) -> Result<(), F
         assert_eq!(rt; ran.status, Status::Done, "of {times} times {part:?}");
         assert_eq!(rt; ran.written.as_slice(), b"accepted\n".as_slice());
     }
+    Ok(())
+}
+
+#[test]
+fn many_declarations_are_accepted(rt: HostRuntime) -> Result<(), Fail> {
+    let alloc = rt.alloc();
+    let mut text = Vec::from_slice(alloc, b"fun main() { }")?;
+    for number in 0..50_000 {
+        let function = format!(in alloc; " fun f{number}() {{ }}")?;
+        text.extend_from_slice(function.as_bytes())?;
+    }
+    let source = source_of(alloc, text.as_slice(), Vec::new(alloc), 65_536)?;
+    let ran = run(alloc, &["check", "F"], source, 100)?;
+    assert_eq!(rt; ran.status, Status::Done);
+    assert_eq!(rt; ran.written.as_slice(), b"accepted\n".as_slice());
     Ok(())
 }
 

@@ -7,14 +7,14 @@ use std::test::Fail;
 fn each_source_has_its_answer(rt: HostRuntime) -> Result<(), Fail> {
     let alloc = rt.alloc();
     let unready = b"refused U1 at 1:1\n".as_slice();
-    let rows: [(&[u8], Status, &[u8]); 14] = [
+    let rows: [(&[u8], Status, &[u8]); 16] = [
         (b"fun main() { print(1 + 2) }", Status::Done, b"3\n"),
         (
             b"fun main() { print(9223372036854775807 + 1) }",
             Status::Trapped,
             b"trap overflow at 1:40 in 0\n",
         ),
-        (b"", Status::Refused, unready),
+        (b"", Status::Refused, b"refused N3 at 1:1\n"),
         (
             b"fun main() { print(1)print(2 - 5) }",
             Status::Done,
@@ -52,7 +52,17 @@ fn each_source_has_its_answer(rt: HostRuntime) -> Result<(), Fail> {
             b"refused L2 at 1:22\n",
         ),
         (b"funmain() { }", Status::Refused, b"refused P1 at 1:1\n"),
-        (b"fun main() { return; }", Status::Refused, unready),
+        (b"fun main() { var x: Int }", Status::Refused, unready),
+        (
+            b"fun main() { print(1 + true) print(y) }",
+            Status::Refused,
+            b"refused N2 at 1:36\n",
+        ),
+        (
+            b"fun main() {\n  print(1 + true)\n}",
+            Status::Refused,
+            b"refused T1 at 2:13\n",
+        ),
         (
             b"fun main() { print(1) } }",
             Status::Refused,
@@ -75,7 +85,12 @@ fn each_command_has_its_answer(rt: HostRuntime) -> Result<(), Fail> {
     let alloc = rt.alloc();
     let two = b"fun main() { print(1) print(2) }".as_slice();
     let rows: [(&[&str], &[u8], Status, &[u8]); 8] = [
-        (&["check", "F"], b"", Status::Done, b"accepted\n"),
+        (
+            &["check", "F"],
+            b"fun main() { }",
+            Status::Done,
+            b"accepted\n",
+        ),
         (
             &["check", "F"],
             b"fun main() {",
@@ -109,9 +124,9 @@ fn each_command_has_its_answer(rt: HostRuntime) -> Result<(), Fail> {
         ),
         (
             &["plain", "F"],
-            b"fun f() { }",
+            b"fun main() { inout x: Int = &y var y: Int }",
             Status::Refused,
-            b"refused U1 at 1:1\n",
+            b"refused N2 at 1:30\n",
         ),
     ];
     for (words, text, status, written) in rows {

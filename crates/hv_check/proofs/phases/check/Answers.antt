@@ -1,15 +1,15 @@
-use Rattle.std.proofs.Common.{subst, Err}
-use Rattle.hv_parse.specs.Answers.{Parses}
-use Rattle.hv_check.proofs.Sources.{parsed_checks, refused_checks}
+use Rattle.hv_check.specs.Checks.{judged}
+use Rattle.hv_check.proofs.Sources.{accepted_checks, first_checks}
 use Rattle.hv_check.proofs.phases.check.Goals as goal
 
-pub returns-in-Ok-parse : goal.returns-in-Ok-parse
-returns-in-Ok-parse c =
-    let l = c.in-Ok.lexed in
-    parsed_checks c.args.source.now l.tokens l.stop c.in-Ok.ensures.lexes c.in-Ok.ensures.only l.end c.in-Ok.ensures.end c.in-Ok-parse.tree c.in-Ok-parse.ensures
+pub returns-in-Ok-None : goal.returns-in-Ok-None
+returns-in-Ok-None c =
+    let source = c.args.source.now in
+    let tree = c.in_ok-tree.tree in
+    accepted_checks source tree (record { read = c.in_ok-tree.ensures; obeys = rw c.in-Ok-None.field-0-is at c.in-Ok-None.ensures.first })
 
-pub returns-in-Err-Refused : goal.returns-in-Err-Refused
-returns-in-Err-Refused c =
-    let l = c.in-Ok.lexed in
-    refused_checks c.args.source.now l.tokens l.stop c.in-Ok.ensures.lexes c.in-Ok.ensures.only l.end c.in-Ok.ensures.end c.in-Err-Refused.refusal
-    (subst (λ e. Parses l.tokens l.stop l.end (Err e)) c.in-Err-Refused.field-0-is c.in-Err-Refused.ensures)
+pub returns-in-Ok-Some : goal.returns-in-Ok-Some
+returns-in-Ok-Some c =
+    let source = c.args.source.now in
+    let tree = c.in_ok-tree.tree in
+    first_checks source c.in-Ok-Some.refusal (judged tree c.in_ok-tree.ensures (rw c.in-Ok-Some.field-0-is at c.in-Ok-Some.ensures.first))

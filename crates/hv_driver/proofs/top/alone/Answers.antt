@@ -1,12 +1,11 @@
-use Rattle.std.proofs.Common.{◌≡◌, refl, ap, sym, subst, map, Err}
+use Rattle.std.proofs.Common.{refl, subst, map, Err}
 use Rattle.std.specs.Prelude.{string_bytes}
 use Rattle.hv_words.specs.Answers.{asked_of}
 use Rattle.hv_words.specs.Answers as words
-use Rattle.hv_driver.specs.Answer.{Answers, usage_line}
+use Rattle.hv_driver.specs.Answer.{Answers}
 use Rattle.hv_driver.specs.Delivers.{Delivers}
 use Rattle.hv_driver.specs.Took.{ReadsFile}
-use Rattle.hv_driver.specs.declared.status.Status.TheVariants.{Usage}
-use Rattle.hv_driver.proofs.Ends.{answer_ordinary, no_source_fault, no_want, no_usage, sink_rose, answered, unless}
+use Rattle.hv_driver.proofs.Ends.{answered, unless}
 use Rattle.hv_driver.proofs.top.alone.Goals as goal
 
 pub returns-in-Err-Usage-clause-untaken : goal.returns-in-Err-Usage-clause-untaken

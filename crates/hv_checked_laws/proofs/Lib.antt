@@ -1,0 +1,4 @@
+-- places at which a source is refused
+mod Placed
+-- accepted programs are safe
+mod Safe

@@ -1,0 +1,2 @@
+-- places at which a source is refused
+pub mod Placed

@@ -1,4 +1,0 @@
-pub mod Chains
-pub mod Running
-pub mod GoingOn
-pub mod Sums

@@ -1,4 +1,0 @@
-pub mod Layers
-pub mod Values
-pub mod Meaning
-pub mod Runs

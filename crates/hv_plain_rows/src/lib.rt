@@ -1,0 +1,7 @@
+//! Tests of what programs do, over sources.
+#![tactic(auto)]
+
+#[cfg(test)]
+mod rows;
+#[cfg(test)]
+mod running;
