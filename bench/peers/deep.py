@@ -13,7 +13,7 @@ def main():
     i = 0
     s = 0
     while i < 100:
-        s = s + depth(990)
+        s = s + depth(998)
         i = i + 1
     print(s)
 

@@ -3,9 +3,12 @@ use hv_parse::{ParseEnd, parse};
 use hv_plain::evaluate;
 use hv_token::lex;
 use std::alloc::{AllocError as NoMemory, Global};
+use std::thread::{self, Builder};
 
-/// What a program of this source does with so many steps; None where it has no tree or is stuck.
-pub fn run(alloc: Global, source: &str, steps: u64) -> Result<Option<TaskNode>, NoMemory> {
+// As the program itself has it, in bytes.
+const STACK: usize = 0x1000_0000;
+
+fn run_here(alloc: Global, source: &str, steps: u64) -> Result<Option<TaskNode>, NoMemory> {
     let source = source.as_bytes();
     if source.len() > 1_048_576 {
         return Ok(None);
@@ -18,4 +21,22 @@ pub fn run(alloc: Global, source: &str, steps: u64) -> Result<Option<TaskNode>, 
         Err(ParseEnd::Refused(_)) => Ok(None),
         Err(ParseEnd::NoMemory) => Err(NoMemory),
     }
+}
+
+/// What a program of this source does with so many steps; None where it has no tree, is stuck, or no thread can be had.
+pub fn run(
+    rt: &(impl AllocGlobal + Threads + Wait),
+    source: &str,
+    steps: u64,
+) -> Result<Option<TaskNode>, NoMemory> {
+    let alloc = rt.alloc();
+    thread::scope(thread::scope_env(), rt, |scope| {
+        match Builder::new()
+            .stack_size(STACK)
+            .spawn_scoped(scope, || run_here(alloc, source, steps))
+        {
+            Ok(running) => running.join(rt),
+            Err(_) => Ok(None),
+        }
+    })
 }
