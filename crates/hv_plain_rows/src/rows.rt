@@ -3,9 +3,12 @@
 use crate::running::run;
 use hv_node::End;
 use std::alloc::{AllocError as NoMemory, Global};
+use std::sync::Wait;
 use std::test::Fail;
+use std::thread::Threads;
 
 // A source without its marks, and where they stood.
+#[derive(Drop)]
 struct Marked {
     source: String,
     trap: usize,

@@ -3,7 +3,8 @@ use hv_parse::{ParseEnd, parse};
 use hv_plain::evaluate;
 use hv_token::lex;
 use std::alloc::{AllocError as NoMemory, Global};
-use std::thread::{self, Builder};
+use std::sync::Wait;
+use std::thread::{self, Builder, Threads};
 
 // As the program itself has it, in bytes.
 const STACK: usize = 0x1000_0000;
