@@ -87,46 +87,47 @@ source_of() {
         }'
 }
 
-# the processor time in seconds and the most memory in KB of the program with this word over the source
+# once WORD SOURCE: the processor time in seconds and the most memory in KB of the program with this word over the source
 once() {
     if [ -x /usr/bin/time ]; then
-        /usr/bin/time -f '%U %S %M' -o "$folder/taken" "$program" "$1" < "$folder/source" > "$folder/written" || return 1
+        /usr/bin/time -f '%U %S %M' -o "$folder/taken" "$program" "$1" < "$2" > "$folder/written" || return 1
         awk '{ print $1 + $2, $3 }' "$folder/taken"
     else
-        python3 - "$program" "$1" "$folder" << 'END_OF_PROGRAM'
+        python3 - "$program" "$1" "$2" "$folder/written" << 'END_OF_PROGRAM'
 import resource, subprocess, sys
-program, word, folder = sys.argv[1:]
-with open(folder + "/source") as source, open(folder + "/written", "w") as written:
-    subprocess.run([program, word], stdin=source, stdout=written, check=True)
+program, word, source, written = sys.argv[1:]
+with open(source) as given, open(written, "w") as taken:
+    subprocess.run([program, word], stdin=given, stdout=taken, check=True)
 used = resource.getrusage(resource.RUSAGE_CHILDREN)
 print(used.ru_utime + used.ru_stime, used.ru_maxrss)
 END_OF_PROGRAM
     fi
 }
 
-# the least of three times, and the least of what was held
+# the least of three times, and the least of what was held; nothing where the answer isn't that nothing is violated
 best() {
     local taken
     for _ in 1 2 3; do
-        taken=$(once "$1") && grep -qx none "$folder/written" || return 1
+        taken=$(once "$1" "$2") && grep -qx none "$folder/written" || return 1
         echo "$taken"
-    done | awk 'NR == 1 || $1 < time { time = $1 } NR == 1 || $2 < held { held = $2 } END { print time, held }'
+    done | awk 'NR == 1 || $1 < time { time = $1 } NR == 1 || $2 < held { held = $2 } END { if (NR == 3) print time, held }'
 }
 
 status=0
 set -- $all
 while [ $# -gt 0 ]; do
+    source_of "$1" "$(($2 / 2))" > "$folder/half"
+    source_of "$1" "$2" > "$folder/whole"
     for word in $words; do
-        taken=''
-        for count in $(($2 / 2)) "$2"; do
-            source_of "$1" "$count" > "$folder/source"
-            taken="$taken $(best "$word") $(wc -c < "$folder/source")"
-        done
-        echo "$1 $2 $word $taken" | awk 'NF == 9 {
-            printf "%-10s %6d  %-6s %7.2f s %6.0f MB   half %7.2f s %6.0f MB   %.2f of linear\n",
-                $1, $2, $3, $7, $8 / 1000, $4, $5 / 1000, ($4 > 0) ? $7 / $4 * $6 / $9 : 0
-        }
-        NF != 9 { print $1, $2, $3, "was not measured"; exit 1 }' || status=1
+        half=$(best "$word" "$folder/half") || half=''
+        whole=$(best "$word" "$folder/whole") || whole=''
+        echo "$1 $2 $word $(wc -c < "$folder/half") $(wc -c < "$folder/whole") $half $whole" | awk '
+            NF == 9 {
+                linear = ($6 > 0) ? $8 / $6 * $4 / $5 : 0
+                printf "%-10s %6d  %-5s %7.2f s %5.0f MB   half %7.2f s %5.0f MB   %.2f of linear\n",
+                    $1, $2, $3, $8, $9 / 1000, $6, $7 / 1000, linear
+            }
+            NF != 9 { print $1, $2, $3, "was not measured"; exit 1 }' || status=1
     done
     shift 2
 done

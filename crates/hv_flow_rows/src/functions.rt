@@ -14,7 +14,7 @@ fun IK(x: inout Int, y: sink Int) { } fun IS(x: inout Int, y: set Int) { &y = x 
 fun KL(x: sink Int, y: Int) { } fun KI(x: sink Int, y: inout Int) { } fun KK(x: sink Int, y: sink Int) { } \
 fun SL(x: set Int, y: Int) { &x = y } fun SI(x: set Int, y: inout Int) { &x = y } \
 fun SS(x: set Int, y: set Int) { &x = 1 &y = 1 } fun SD(x: set Int, p: P) { &x = 1 } \
-fun III(x: inout Int, y: inout Int, z: inout Int) { } fun IIL(x: inout Int, y: inout Int, z: Int) { } \
+fun III(x: inout Int, y: inout Int, u: inout Int) { } fun IIL(x: inout Int, y: inout Int, u: Int) { } \
 fun AI(a: inout [Int], x: inout Int) { } fun IA(x: inout Int, a: inout [Int]) { } fun AL(a: inout [Int], x: Int) { } \
 fun LA(x: Int, a: inout [Int]) { } fun PI(p: inout P, x: inout Int) { } fun IP(x: inout Int, p: inout P) { } \
 fun PL(p: inout P, x: Int) { } fun ID(x: inout Int, p: P) { } fun DI(p: P, x: inout Int) { } fun C(p: sink P) { } \

@@ -92,11 +92,65 @@ fun main() {
 }
 ";
 
+// A binding isn't used any more, or is in the next turn; its access stays open in either case.
+const UNUSED: &str = "\
+fun main() {
+  var x: Int = 1
+  inout r: Int = &x
+  &r = 2
+  print(x)
+  &x = 3
+  print(x)
+}
+";
+
+const USED_AGAIN: &str = "\
+fun main() {
+  var x: Int = 1
+  inout r: Int = &x
+  while x < 3 { &r = 2
+  print(x)
+  &x = 3 }
+  print(x)
+}
+";
+
+// Tasks that would change a field, one field twice, or an element. A task keeps nothing open, so no access clashes.
+const LENT: &str = "\
+struct P { var x: Int var y: Int }
+fun inc(v: inout Int) { &v = v + 1 }
+fun main() {
+  var p: P = P(1, 2)
+  task a = spawn(10) inc(&p.x)
+  task b = spawn(10) inc(&p.y)
+  print(p.x)
+  await b
+  await a
+  print(p)
+}
+";
+
+const LENT_TWICE: &str = "\
+struct P { var x: Int var y: Int }
+fun inc(v: inout Int) { &v = v + 1 }
+fun main() {
+  var p: P = P(1, 2)
+  task a = spawn(10) inc(&p.x)
+  task b = spawn(10) inc(&p.x)
+  await b
+  await a
+  print(p)
+}
+";
+
+const LENT_ELEMENT: &str = "\
+fun inc(v: inout Int) { &v = v + 1 } fun main() { var a: [Int] = [1] task h = spawn(10) inc(&a[0]) await h }";
+
 // The rule, the line and the column.
 type At = Option<(Rule, u32, u32)>;
 
 // What the rules on accesses and those on handles refuse.
-const ROWS: [(&str, At, At); 9] = [
+const ROWS: [(&str, At, At); 14] = [
     (ONE_SIDE, None, None),
     (BOTH_SIDES, None, None),
     (ELEMENTS, Some((Rule::X1, 5, 13)), None),
@@ -106,6 +160,11 @@ const ROWS: [(&str, At, At); 9] = [
     (MOVED_TWICE, None, None),
     (LEFT, None, Some((Rule::S1, 5, 1))),
     (AWAITED_TWICE, None, Some((Rule::S2, 4, 19))),
+    (UNUSED, Some((Rule::X2, 5, 9)), None),
+    (USED_AGAIN, Some((Rule::X2, 4, 9)), None),
+    (LENT, None, Some((Rule::S3, 5, 22))),
+    (LENT_TWICE, None, Some((Rule::S3, 5, 22))),
+    (LENT_ELEMENT, None, Some((Rule::S3, 1, 89))),
 ];
 
 // What is answered, as the line and column of its place.
