@@ -17,6 +17,7 @@ fn a_source_is_accepted_or_refused_at_its_place(rt: HostRuntime) -> Result<(), F
         (b"fun main() { print(true + 1) }", Rule::T1, 19),
     ];
     for (source, rule, start) in rows {
+        assert!(rt; source.len() < 100);
         match check(alloc, source, Edition::One) {
             Err(CheckEnd::Refused(Refusal { rule: found, place })) => {
                 assert_eq!(rt; found, rule, "of {source:?}");
