@@ -378,8 +378,8 @@ fn one_step_less_is_spent_at_the_last_cost(rt: HostRuntime) -> Result<(), Fail> 
     for row in &ROWS {
         let marked = unmarked(alloc, row.source)?;
         let source = marked.source.as_str();
-        let short = report(&rt, source, row.used - 1)?;
-        let paid = row.used - row.last;
+        let short = report(&rt, source, row.used.saturating_sub(1))?;
+        let paid = row.used.saturating_sub(row.last);
         let expected = format!(in alloc; "{}spent {} {paid}", row.shorter, marked.spent)?;
         assert_eq!(rt; short.as_deref(), Some(expected.as_str()), "{source}");
     }
