@@ -1,50 +1,33 @@
 use hv_await::await_refusal;
-use hv_excl::excl_refusal;
 use hv_parse::{ParseEnd, parse};
 use hv_token::lex;
-use hv_tree::{Place, Refusal, Rule, Tree};
+use hv_tree::Rule;
 use std::alloc::{AllocError as NoMemory, Global};
-
-/// The rules that are judged together.
-#[derive(Clone, Copy, Debug)]
-pub enum Phase {
-    Accesses,
-    Handles,
-}
 
 /// What is judged of a source.
 #[derive(Clone, Copy, Debug, PartialEq, Eq)]
 pub enum Judged {
     Accepted,
-    Refused(Rule, Place),
+    Refused(Rule, u32),
     /// It has no tree.
     Unread,
 }
 
 /// The source without the mark `^`, and where that stands.
-pub fn unmarked(alloc: Global, text: &str) -> Result<(Vec<u8>, Place), NoMemory> {
+pub fn unmarked(alloc: Global, text: &str) -> Result<(Vec<u8>, usize), NoMemory> {
     let mut source = Vec::new(alloc);
-    let mut start = 0u32;
-    let mut marked = 0;
+    let mut place = 0;
     for byte in text.as_bytes() {
         if *byte == b'^' {
-            marked = start;
+            place = source.len();
         } else {
             source.push(*byte)?;
-            start = start.saturating_add(1);
         }
     }
-    Ok((source, Place { start: marked }))
+    Ok((source, place))
 }
 
-fn first_of(alloc: Global, phase: Phase, tree: &Tree) -> Result<Option<Refusal>, NoMemory> {
-    match phase {
-        Phase::Accesses => excl_refusal(alloc, tree),
-        Phase::Handles => await_refusal(alloc, tree),
-    }
-}
-
-pub fn answer_of(alloc: Global, phase: Phase, source: &[u8]) -> Result<Judged, NoMemory> {
+pub fn answer_of(alloc: Global, source: &[u8]) -> Result<Judged, NoMemory> {
     if source.len() > 1_048_576 {
         return Ok(Judged::Unread);
     }
@@ -56,8 +39,8 @@ pub fn answer_of(alloc: Global, phase: Phase, source: &[u8]) -> Result<Judged, N
         Err(ParseEnd::Refused(_)) => return Ok(Judged::Unread),
         Err(ParseEnd::NoMemory) => return Err(NoMemory),
     };
-    match first_of(alloc, phase, &tree)? {
-        Some(refusal) => Ok(Judged::Refused(refusal.rule, refusal.place)),
+    match await_refusal(alloc, &tree)? {
+        Some(refusal) => Ok(Judged::Refused(refusal.rule, refusal.place.start)),
         None => Ok(Judged::Accepted),
     }
 }

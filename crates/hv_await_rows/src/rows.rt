@@ -1,6 +1,6 @@
 // Programs that violate a rule on handles at the mark `^`, and the nearest ones that don't.
-use crate::judging::{Judged, Phase, answer_of, unmarked};
-use hv_tree::{Place, Rule};
+use crate::judging::{Judged, answer_of, unmarked};
+use hv_tree::Rule;
 use std::alloc::{AllocError as NoMemory, Global};
 use std::test::Fail;
 
@@ -205,7 +205,7 @@ const ACCEPTED: [&str; 17] = [
     "task h = spawn(9) f() await h if false { task k = spawn(9) f() await k return; } }",
 ];
 
-fn source_of(alloc: Global, row: &str) -> Result<(Vec<u8>, Place), NoMemory> {
+fn source_of(alloc: Global, row: &str) -> Result<(Vec<u8>, usize), NoMemory> {
     let text = format!(in alloc; "{FUNCTIONS}fun main() {{ {row}")?;
     unmarked(alloc, text.as_str())
 }
@@ -215,8 +215,10 @@ fn the_first_violation_is_answered(rt: HostRuntime) -> Result<(), Fail> {
     let alloc = rt.alloc();
     for (rule, row) in REFUSED {
         let (source, place) = source_of(alloc, row)?;
-        let found = answer_of(alloc, Phase::Handles, source.as_slice())?;
-        assert_eq!(rt; found, Judged::Refused(rule, place), "{row}");
+        let found = answer_of(alloc, source.as_slice())?;
+        let right =
+            matches!(found, Judged::Refused(r, start) if r == rule && start as usize == place);
+        assert!(rt; right, "{row}: {found:?}, and not at {place}");
     }
     Ok(())
 }
@@ -226,8 +228,36 @@ fn what_violates_nothing_is_accepted(rt: HostRuntime) -> Result<(), Fail> {
     let alloc = rt.alloc();
     for row in ACCEPTED {
         let (source, _) = source_of(alloc, row)?;
-        let found = answer_of(alloc, Phase::Handles, source.as_slice())?;
+        let found = answer_of(alloc, source.as_slice())?;
         assert_eq!(rt; found, Judged::Accepted, "{row}");
     }
+    Ok(())
+}
+
+// A program with `main` over several lines, and the place of a line and column in it.
+const LINES: [&str; 4] = [
+    "fun one() -> Int { return 1 }",
+    "fun main() {",
+    "  task h: Int = spawn(2) one()",
+    "  if true { print(await h) }",
+];
+
+fn with_fourth(alloc: Global, fourth: &str) -> Result<String, NoMemory> {
+    let [first, second, third, _] = LINES;
+    format!(in alloc; "{first}\n{second}\n{third}\n{fourth}\n}}\n")
+}
+
+#[test]
+fn a_program_of_five_lines(rt: HostRuntime) -> Result<(), Fail> {
+    let alloc = rt.alloc();
+    let before = LINES[0].len() + LINES[1].len() + LINES[2].len() + 3;
+    let left = with_fourth(alloc, LINES[3])?;
+    let end = (before + LINES[3].len() + 1) as u32;
+    let found = answer_of(alloc, left.as_bytes())?;
+    assert_eq!(rt; found, Judged::Refused(Rule::S1, end));
+    let again = with_fourth(alloc, "  print(await h + await h)")?;
+    let second = (before + 18) as u32;
+    let found = answer_of(alloc, again.as_bytes())?;
+    assert_eq!(rt; found, Judged::Refused(Rule::S2, second));
     Ok(())
 }
