@@ -32,14 +32,14 @@ acts_of acts (ended m e is agree) = acts m.event m.place (e ∷ [])
 
 -- ---- ends of the parts of a flow
 
-record Parted (es : List End) (bs cs : List Belongs) : Type 0 where
-  left : List End
-  right : List End
-  split : es ≡ left ++ right
-  before : AllAgree (map belongs_by left) bs
-  behind : AllAgree (map belongs_by right) cs
+pub record Parted (es : List End) (bs cs : List Belongs) : Type 0 where
+  pub left : List End
+  pub right : List End
+  pub split : es ≡ left ++ right
+  pub before : AllAgree (map belongs_by left) bs
+  pub behind : AllAgree (map belongs_by right) cs
 
-parted : (es : List End) (bs cs : List Belongs) → AllAgree (map belongs_by es) (bs ++ cs) → Parted es bs cs
+pub parted : (es : List End) (bs cs : List Belongs) → AllAgree (map belongs_by es) (bs ++ cs) → Parted es bs cs
 parted es [] cs h = record { left = []; right = es; split = refl; before = tt; behind = h }
 parted [] (b ∷ bs) cs h = absurd h
 parted (e ∷ es) (b ∷ bs) cs h =
@@ -59,21 +59,21 @@ record Told (f : Events) (es : List End) : Type 0 where
 abbrev ends_by : Mark → Bool → List Belongs
 ends_by m b = if b then m.belongs ∷ [] else []
 
-no_end : (m : Mark) (es : List End) → is_end m.event ≡ false → AllAgree (map belongs_by es) (if_end m) → es ≡ []
+pub no_end : (m : Mark) (es : List End) → is_end m.event ≡ false → AllAgree (map belongs_by es) (if_end m) → es ≡ []
 no_end m [] e h = refl
 no_end m (x ∷ es) e h = absurd (subst (λ b. AllAgree (map belongs_by (x ∷ es)) (ends_by m b)) e h)
 
-record One (m : Mark) (es : List End) : Type 0 where
-  end : End
-  alone : es ≡ end ∷ []
-  agrees : Agree (belongs_by end) m.belongs
+pub record One (m : Mark) (es : List End) : Type 0 where
+  pub end : End
+  pub alone : es ≡ end ∷ []
+  pub agrees : Agree (belongs_by end) m.belongs
 
 one_by : (m : Mark) (es : List End) → AllAgree (map belongs_by es) (m.belongs ∷ []) → One m es
 one_by m [] h = absurd h
 one_by m (x ∷ []) h = record { end = x; alone = refl; agrees = h.0 }
 one_by m (x ∷ (y ∷ es)) h = absurd h.1
 
-one_end : (m : Mark) (es : List End) → is_end m.event ≡ true → AllAgree (map belongs_by es) (if_end m) → One m es
+pub one_end : (m : Mark) (es : List End) → is_end m.event ≡ true → AllAgree (map belongs_by es) (if_end m) → One m es
 one_end m es e h = one_by m es (subst (λ b. AllAgree (map belongs_by es) (ends_by m b)) e h)
 
 do_told : (m : Mark) (es : List End) → IsTidy m → AllAgree (map belongs_by es) (if_end m) → Told (Do m) es

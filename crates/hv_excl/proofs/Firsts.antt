@@ -56,7 +56,7 @@ module _ (P S : Refusal → Type 0) where
       by r (inl p) = not_after y x r n (h.1 r p)
       by r (inr p) = g.1 r p
 
-  first_of : (v w u : Option Refusal) → IsFirst P v → IsFirst S w → IsEarlier v w u → IsFirst (λ r. P r ⊎ S r) u
+  pub first_of : (v w u : Option Refusal) → IsFirst P v → IsFirst S w → IsEarlier v w u → IsFirst (λ r. P r ⊎ S r) u
   first_of None None u h g e = subst (λ (z : Option Refusal). IsFirst (λ r. P r ⊎ S r) z) (sym e) by
     where
       by : (r : Refusal) → P r ⊎ S r → ⊥

@@ -24,7 +24,7 @@ use Rattle.hv_excl.specs.Judged.{acts_of, judged}
 use Rattle.hv_excl.proofs.Telling.{next_in, last_in, Tells, next_is, body_tells}
 use Rattle.hv_excl.proofs.Refusing.{acts_at, refusing}
 
-open_same : (e : FlowEvent) (of : Belongs) (xs : List Access) → open_behind e (binding_of of) xs ≡ marks.open_behind e of xs
+pub open_same : (e : FlowEvent) (of : Belongs) (xs : List Access) → open_behind e (binding_of of) xs ≡ marks.open_behind e of xs
 open_same event.Entry of xs = refl
 open_same (event.Declare n) of xs = refl
 open_same (event.Init p) of xs = refl

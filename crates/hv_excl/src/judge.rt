@@ -5,7 +5,7 @@ ghost use Rattle.hv_excl.specs.Judged as spec;
 
 use crate::clash::refused_at;
 use crate::open::{OpenAccess, pass_event};
-use crate::told::{declares, told};
+use crate::told::{declares, told_binding};
 use hv_items::Items;
 use hv_pass::{Act, PassOp, Range};
 use hv_plan::FlowOp;
@@ -46,7 +46,8 @@ fn judge_word(
     })
 }
 
-fn pass_word<'p>(
+/// The open accesses behind a word that belongs to this binding, or to none.
+pub fn pass_word<'p>(
     alloc: Global,
     opened: Items<OpenAccess<'p>>,
     word: &'p FlowOp,
@@ -70,7 +71,7 @@ pub fn judge(alloc: Global, plan: &[FlowOp]) -> Result<Items<PassOp>, NoMemory>
     let mut before = None;
     let mut left = plan;
     while let [word, rest @ ..] = left {
-        let binding = told(before, word, rest);
+        let binding = told_binding(before, word, rest);
         judged.push(judge_word(alloc, opened.as_slice(), word, binding)?)?;
         opened = pass_word(alloc, opened, word, binding)?;
         before = declares(word);

@@ -50,7 +50,7 @@ fn told_by(before: Option<u32>, behind: &[FlowOp], event: &FlowEvent) -> Option<
 }
 
 /// The binding of a word's event, behind a word that declares `before`.
-pub fn told(before: Option<u32>, word: &FlowOp, behind: &[FlowOp]) -> Option<u32>
+pub fn told_binding(before: Option<u32>, word: &FlowOp, behind: &[FlowOp]) -> Option<u32>
     ensures { result ≡ told_op before word.now behind.now }
 {
     match word {
