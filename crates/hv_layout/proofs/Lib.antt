@@ -1,0 +1,6 @@
+-- ascending positions
+pub mod CutLemmas
+-- what occurs in a body has its ends among the positions
+pub mod Traced
+pub mod Ending
+pub mod Fitting

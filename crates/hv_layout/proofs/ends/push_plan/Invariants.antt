@@ -1,0 +1,6 @@
+use Rattle.std.proofs.Common.{◌≡◌, ◌++◌, drop}
+use Rattle.hv_layout.specs.Ends as spec
+use Rattle.hv_layout.proofs.ends.push_plan.Given as goal
+
+abbrev pub invariant-loop-word : goal.invariant-loop-word
+invariant-loop-word l = l.positions ++ spec.plan_ends l.sizes l.leaves (drop l.word-index l.plan) ≡ l.fn.positions ++ spec.plan_ends l.sizes l.leaves l.plan

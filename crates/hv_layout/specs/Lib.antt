@@ -1,0 +1,5 @@
+-- what the contracts rest on
+pub mod Laid
+-- what the functions inside promise each other
+pub mod Cuts
+pub mod Ends

@@ -1,0 +1,79 @@
+// Which cells the leaves of a body's locals have.
+ghost use Rattle.std.specs.Prelude.{◌≡◌, [], IfOk};
+ghost use Rattle.hv_tree.specs.Core.{core_tree};
+ghost use Rattle.hv_rules.specs.States.{fields_of};
+ghost use Rattle.hv_scope.specs.Bodies.{body_by};
+ghost use Rattle.hv_plan.specs.Spelling.{plan_of_body};
+ghost use Rattle.hv_init_law.specs.Layout.{Fits};
+ghost use Rattle.hv_leaves.specs.Leaves.{AreSizesOf};
+ghost use Rattle.hv_layout.specs.Laid.{laid};
+
+use crate::cuts::{Cuts, number};
+use crate::ends::all_ends;
+use hv_leaves::{Leaves, Sizes};
+use hv_pass::Range;
+use hv_plan::FlowOp;
+use hv_rules::{StaticPath, StaticStep};
+use hv_scope::{Body, Declared, body_locals};
+use std::alloc::{AllocError as NoMemory, Global};
+
+/// Which cells the leaves of a body's locals have. Cell 0 is that of no leaf. There is a cell more only
+/// where a local begins, or where the leaves under a path of the plan begin or end.
+#[derive(Drop)]
+pub struct Layout<'s> {
+    sizes: &'s Sizes,
+    leaves: Leaves,
+    cuts: Cuts,
+}
+
+impl<'s> Layout<'s> {
+    /// The layout of a body with this plan, in time about linear in the plan.
+    pub fn of(
+        alloc: Global,
+        declared: &Declared<'_>,
+        sizes: &'s Sizes,
+        body: &Body<'_>,
+        plan: &[FlowOp],
+    ) -> Result<Layout<'s>, NoMemory>
+        ensures { IfOk result (λ l. AreSizesOf (core_tree declared.now) sizes.now → plan.now ≡ plan_of_body (core_tree declared.now) (body_by body.now) → Fits (core_tree declared.now) (body_by body.now) (laid l)) }
+    {
+        let locals = body_locals(alloc, body)?;
+        let leaves = Leaves::of(alloc, declared, sizes, locals.as_slice())?;
+        let count = number(locals.as_slice().len())?;
+        let positions = all_ends(alloc, sizes, &leaves, count, plan)?;
+        let cuts = Cuts::of(alloc, positions)?;
+        Ok(Layout {
+            sizes,
+            leaves,
+            cuts,
+        })
+    }
+
+    fn cells(&self, root: u32, steps: &[StaticStep]) -> Result<Range, NoMemory>
+        ensures { IfOk result (λ r. r ≡ (laid self.now).range_of root (fields_of steps.now)) }
+    {
+        let range = self.leaves.range(self.sizes, root, steps)?;
+        self.cuts.ranked(range)
+    }
+
+    /// The cells of the leaves under a path's fields.
+    pub fn path_cells(&self, path: &StaticPath) -> Result<Range, NoMemory>
+        ensures { IfOk result (λ r. r ≡ (laid self.now).range_of path.now.root (fields_of path.now.steps)) }
+    {
+        self.cells(path.root, path.steps.as_slice())
+    }
+
+    /// The cells of all leaves of a local.
+    pub fn local_cells(&self, local: u32) -> Result<Range, NoMemory>
+        ensures { IfOk result (λ r. r ≡ (laid self.now).range_of local []) }
+    {
+        self.cells(local, &[])
+    }
+
+    /// The cell that is no leaf's.
+    pub fn free_cell(&self) -> Range
+        ensures { result ≡ record { from = (laid self.now).free; count = 1 } }
+    {
+        Range { from: 0, count: 1 }
+    }
+}

@@ -1,0 +1,10 @@
+//! Which cells the leaves of a body's locals have: leaves that no event parts share one.
+#![tactic(auto)]
+
+mod cuts;
+mod ends;
+mod layout;
+#[cfg(test)]
+mod tests;
+
+pub use layout::Layout;
