@@ -1,0 +1,7 @@
+-- acts that refuse as much as others
+pub mod Alike
+-- what the words of a plan spell
+pub mod Told
+pub mod Closings
+pub mod Asking
+pub mod Bodies

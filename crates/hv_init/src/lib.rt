@@ -1,0 +1,11 @@
+//! The first violation of the rules on initialisation, over all traces of all bodies.
+#![tactic(auto)]
+
+mod asks;
+mod closing;
+mod init;
+mod path;
+mod sets;
+mod words;
+
+pub use init::init_refusal;
