@@ -1,7 +1,0 @@
-//! Tests of the rules on handles over sources.
-#![tactic(auto)]
-
-#[cfg(test)]
-mod judging;
-#[cfg(test)]
-mod rows;
