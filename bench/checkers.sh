@@ -1,15 +1,15 @@
 #!/bin/bash
-# What the checkers of accesses and handles take over sources that are hostile to them: for each source and its half the
-# best processor time of three runs, in seconds, the most memory that was held, and how far the time is above linear. Reading,
-# lexing and parsing included, and at most 2 GB of memory. No source violates a rule; it ends with 1 where one is refused or
-# a run doesn't end.
+# What the checkers of initialisation, accesses and handles take over sources that are hostile to them: for each source and
+# its half the best processor time of three runs, in seconds, the most memory that was held, and how far the time is above
+# linear. Reading, lexing and parsing included, and at most 2 GB of memory. No source violates a rule; it ends with 1 where
+# one is refused or a run doesn't end.
 # Usage: bench/checkers.sh [PROGRAM [WORD..]], with the words of hv_bench that say what is judged
 set -eu
 cd "$(dirname "$0")/.."
 if [ $# -eq 0 ]; then ( cd crates/hv_bench && rt run -- excl < stdin > /dev/null ); fi
 program=$(realpath "${1:-crates/hv_bench/out/hv_bench}")
 shift || true
-words=${*:-excl await}
+words=${*:-init excl await}
 folder=$(mktemp -d)
 trap 'rm -rf "$folder"' EXIT
 ulimit -v 2097152

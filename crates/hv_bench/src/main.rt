@@ -1,9 +1,11 @@
-//! Does to a source at standard input what `hv` doesn't do yet, for the measurements of bench/: `excl` and `await` print the
-//! place of the first violation of the rules on accesses or on handles, `run` runs a program that passes places on.
+//! Does to a source at standard input what `hv` doesn't do yet, for the measurements of bench/: `init`, `excl` and `await`
+//! print the place of the first violation of the rules on initialisation, on accesses or on handles, `run` runs a program
+//! that passes places on.
 #![tactic(auto)]
 
 use hv_await::await_refusal;
 use hv_excl::excl_refusal;
+use hv_init::init_refusal;
 use hv_node::End;
 use hv_parse::parse;
 use hv_plain::evaluate;
@@ -66,12 +68,13 @@ fn answer(rt: &(impl Env + AllocGlobal + Input)) -> io::Result<String> {
     };
     for word in env::args(rt)?.skip(1) {
         return Ok(match word.as_str() {
+            "init" => told(alloc, init_refusal(alloc, &tree)?)?,
             "excl" => told(alloc, excl_refusal(alloc, &tree)?)?,
             "await" => told(alloc, await_refusal(alloc, &tree)?)?,
             _ => run(alloc, &tree)?,
         });
     }
-    Ok(String::from_str(alloc, "excl, await or run\n")?)
+    Ok(String::from_str(alloc, "init, excl, await or run\n")?)
 }
 
 fn main(rt: HostRuntime) -> io::Result<()> {
