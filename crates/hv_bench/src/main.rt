@@ -1,7 +1,9 @@
-//! Does to a source at standard input what `hv` doesn't do yet, for the measurements of bench/: `init`, `excl` and `await`
-//! print the place of the first violation of the rules on initialisation, on accesses or on handles, `run` runs a program
-//! that passes places on.
+//! Does to a source at standard input what `hv` doesn't do yet, for the measurements of bench/ and for the examples: `init`,
+//! `excl` and `await` print the place of the first violation of the rules on initialisation, on accesses or on handles,
+//! `judge` the line that names the first violation of the three, and `run` runs a program that passes places on.
 #![tactic(auto)]
+
+ghost use Rattle.std.specs.Prelude.{length, ◌<◌};
 
 use hv_await::await_refusal;
 use hv_excl::excl_refusal;
@@ -9,6 +11,7 @@ use hv_init::init_refusal;
 use hv_node::End;
 use hv_parse::parse;
 use hv_plain::evaluate;
+use hv_report::refusal_line;
 use hv_token::lex;
 use hv_tree::{Refusal, Tree};
 use std::alloc::{AllocError, Global};
@@ -22,11 +25,8 @@ const STACK: usize = 0x1000_0000;
 
 const STEPS: u64 = 1_000_000_000_000;
 
-// The source's tree; None where it is too long, or has none.
+// The source's tree, if it has one.
 fn tree_of(alloc: Global, source: &[u8]) -> Result<Option<Tree>, AllocError> {
-    if source.len() > 1_048_576 {
-        return Ok(None);
-    }
     let Ok(lexed) = lex(alloc, source) else {
         return Ok(None);
     };
@@ -40,14 +40,39 @@ fn told(alloc: Global, refusal: Option<Refusal>) -> Result<String, AllocError> {
     }
 }
 
+// What the program writes is text.
+fn text_of(alloc: Global, bytes: Vec<u8>) -> String {
+    match String::from_utf8(bytes) {
+        Ok(text) => text,
+        Err(_) => String::new(alloc),
+    }
+}
+
+// The rules on initialisation come first, then those on accesses, then those on handles.
+fn first_violation(alloc: Global, tree: &Tree) -> Result<Option<Refusal>, AllocError> {
+    if let Some(refusal) = init_refusal(alloc, tree)? {
+        return Ok(Some(refusal));
+    }
+    if let Some(refusal) = excl_refusal(alloc, tree)? {
+        return Ok(Some(refusal));
+    }
+    await_refusal(alloc, tree)
+}
+
+fn judge(alloc: Global, source: &[u8], tree: &Tree) -> Result<String, AllocError>
+    requires { length source.now < 4294967295 }
+{
+    match first_violation(alloc, tree)? {
+        Some(refusal) => Ok(text_of(alloc, refusal_line(alloc, source, refusal)?)),
+        None => String::from_str(alloc, "accepted\n"),
+    }
+}
+
 fn run(alloc: Global, tree: &Tree) -> Result<String, AllocError> {
     let Some(node) = evaluate(alloc, tree, STEPS)? else {
         return String::from_str(alloc, "stuck\n");
     };
-    let mut text = match String::from_utf8(node.output.into_vec()) {
-        Ok(text) => text,
-        Err(_) => String::new(alloc),
-    };
+    let mut text = text_of(alloc, node.output.into_vec());
     match node.end {
         End::Done(_) => {}
         End::Trap(kind, at) => text.push_str(format!(in alloc;
@@ -59,22 +84,30 @@ fn run(alloc: Global, tree: &Tree) -> Result<String, AllocError> {
     Ok(text)
 }
 
+fn answer_of(alloc: Global, word: &str, source: &[u8]) -> Result<String, AllocError> {
+    if source.len() > 1_048_576 {
+        return String::from_str(alloc, "no tree\n");
+    }
+    let Some(tree) = tree_of(alloc, source)? else {
+        return String::from_str(alloc, "no tree\n");
+    };
+    match word {
+        "init" => told(alloc, init_refusal(alloc, &tree)?),
+        "excl" => told(alloc, excl_refusal(alloc, &tree)?),
+        "await" => told(alloc, await_refusal(alloc, &tree)?),
+        "judge" => judge(alloc, source, &tree),
+        _ => run(alloc, &tree),
+    }
+}
+
 fn answer(rt: &(impl Env + AllocGlobal + Input)) -> io::Result<String> {
     let alloc = rt.alloc();
     let mut source = Vec::new(alloc);
     rt.reader().read_to_end(&mut source)?;
-    let Some(tree) = tree_of(alloc, source.as_slice())? else {
-        return Ok(String::from_str(alloc, "no tree\n")?);
-    };
     for word in env::args(rt)?.skip(1) {
-        return Ok(match word.as_str() {
-            "init" => told(alloc, init_refusal(alloc, &tree)?)?,
-            "excl" => told(alloc, excl_refusal(alloc, &tree)?)?,
-            "await" => told(alloc, await_refusal(alloc, &tree)?)?,
-            _ => run(alloc, &tree)?,
-        });
+        return Ok(answer_of(alloc, word.as_str(), source.as_slice())?);
     }
-    Ok(String::from_str(alloc, "init, excl, await or run\n")?)
+    Ok(String::from_str(alloc, "init, excl, await, judge or run\n")?)
 }
 
 fn main(rt: HostRuntime) -> io::Result<()> {
