@@ -25,8 +25,11 @@ ulimit -v 2097152
 #   blocks      bindings that stay open, and four blocks for each
 #   sides       handles that wait to be awaited, and two `if`s for each
 #   spans       handles of one block parted by those of others, and a `return` for each
+#   turns       locals that are filled, and a loop around a change of each
+#   links       locals without a value, each filled in a link of its own of one chain of `else if`
+#   backs       bindings that are written back, and a `return` for each
 all='branches 30000 loops 1000 handles 10000 calls 20000 leaves 4096 statements 50000 bindings 20000 blocks 10000
-     sides 10000 spans 4000'
+     sides 10000 spans 4000 turns 20000 links 20000 backs 3000'
 
 # source_of KIND COUNT. A local's name has three characters, of which the first is a letter, so that no keyword is one.
 source_of() {
@@ -81,6 +84,18 @@ source_of() {
             if (kind == "spans") {
                 for (i = 0; i < 2 * count; i += 2)
                     print "task " name(i) "=spawn(9)f(){task " name(i + 1) "=spawn(9)f()await " name(i + 1) "}await " name(i)
+                repeated("if b{return;}\n", count)
+            }
+            if (kind == "turns") {
+                for (i = 0; i < count; i++) print "var " name(i) ":Int=1"
+                for (i = 0; i < count; i++) print "while b{&" name(i) "=2}"
+            }
+            if (kind == "links") {
+                for (i = 0; i < count; i++) print "var " name(i) ":Int"
+                for (i = 0; i < count; i++) print (i > 0 ? "else " : "") "if b{&" name(i) "=1}"
+            }
+            if (kind == "backs") {
+                for (i = 0; i < 2 * count; i += 2) print "var " name(i) ":Int=1 inout " name(i + 1) ":Int=&" name(i)
                 repeated("if b{return;}\n", count)
             }
             print "}"
