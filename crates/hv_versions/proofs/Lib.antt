@@ -1,0 +1,11 @@
+pub mod Stacks
+pub mod ListLemmas
+pub mod Changes
+pub mod OneCell
+pub mod AllCells
+pub mod Trails
+pub mod Opening
+pub mod Closes
+pub mod Sides
+pub mod Ending
+pub mod Outcomes

@@ -1,0 +1,69 @@
+ghost use Rattle.std.specs.Prelude.{◌≡◌};
+ghost use Rattle.hv_versions.specs.Cells as spec;
+
+/// What a cell may be, seen from where the innermost turn of a loop began. A cell that may be
+/// nothing isn't reached.
+#[derive(Clone, Copy)]
+pub struct Cell {
+    /// It may be as it was there.
+    pub kept: bool,
+    pub no: bool,
+    pub yes: bool,
+}
+
+impl Cell {
+    pub fn is_reached(self) -> bool
+        ensures { result ≡ spec.is_reached self }
+    {
+        self.kept || self.no || self.yes
+    }
+
+    pub fn set(self, value: bool) -> Cell
+        ensures { result ≡ spec.set_cell value self }
+    {
+        Cell {
+            kept: false,
+            no: self.is_reached() && !value,
+            yes: self.is_reached() && value,
+        }
+    }
+
+    pub fn either(self, other: Cell) -> Cell
+        ensures { result ≡ spec.either_cell self other }
+    {
+        Cell {
+            kept: self.kept || other.kept,
+            no: self.no || other.no,
+            yes: self.yes || other.yes,
+        }
+    }
+
+    /// As a turn of a loop begins.
+    pub fn begun(self) -> Cell
+        ensures { result ≡ spec.begun_cell self }
+    {
+        Cell {
+            kept: self.is_reached(),
+            no: false,
+            yes: false,
+        }
+    }
+
+    /// Behind a loop, one turn of which leaves the cell so.
+    pub fn turned(self, turn: Cell) -> Cell
+        ensures { result ≡ spec.turned_cell self turn }
+    {
+        let reached = self.is_reached();
+        Cell {
+            kept: self.kept,
+            no: self.no || reached && turn.no,
+            yes: self.yes || reached && turn.yes,
+        }
+    }
+
+    pub fn may(self, value: bool) -> bool
+        ensures { result ≡ spec.cell_may self value }
+    {
+        if value { self.yes } else { self.no }
+    }
+}

@@ -1,0 +1,31 @@
+ghost use Rattle.std.specs.Prelude.{◌≡◌};
+ghost use Rattle.hv_versions.specs.States as spec;
+
+/// A part of the walk that is open. Each tells whether what was before it was reached, or how
+/// many sides are passed that were reached to their end.
+#[derive(Clone, Copy)]
+pub enum Kind {
+    OneSide(bool),
+    OtherSide(usize),
+    Turn(bool),
+}
+
+#[derive(Clone, Copy)]
+pub struct Part {
+    pub kind: Kind,
+    /// How long the trail was as it began.
+    pub from: usize,
+    /// How deep the innermost turn around it is; 0 is none.
+    pub around: usize,
+}
+
+impl Kind {
+    pub fn sides(self) -> usize
+        ensures { result ≡ spec.number self }
+    {
+        match self {
+            Kind::OtherSide(sides) => sides,
+            Kind::OneSide(_) | Kind::Turn(_) => 0,
+        }
+    }
+}
