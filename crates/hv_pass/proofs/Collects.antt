@@ -1,22 +1,20 @@
 -- The pass over a flow knows what its cells may be, and the first of all that is refused on the way.
-use Rattle.std.proofs.Common.{◌≡◌, ◌⊎◌, inl, inr, ℕ, zero, suc, ◌≤◌, Bool, List, [], ◌∷◌, ◌++◌, map, length, replicate, Option, Some, None, refl, sym, ◌∙◌, ap, subst, arith}
+use Rattle.std.proofs.Common.{◌≡◌, ◌⊎◌, inl, inr, ℕ, Bool, List, [], ◌∷◌, ◌++◌, Option, Some, None, refl, sym, ◌∙◌, ap, subst}
 use Rattle.std.proofs.lemmas.List.{append-nil}
 use Rattle.hv_tree.specs.declared.refusal.Refusal.{Refusal}
+use Rattle.hv_rules.specs.Earlier.{NotAfter}
 use Rattle.hv_rules.specs.Flow.{Flow, Skip, Do, Stop, Then, Either, Loop, Turns, none, more, Ends}
-use Rattle.hv_rules.specs.Earlier.{IsFirst}
-use Rattle.hv_pass.specs.declared.cell.Cell.{Cell}
-use Rattle.hv_pass.specs.declared.cell.Due.{Due}
+use Rattle.hv_versions.specs.declared.cell.Cell.{Cell}
+use Rattle.hv_pass.specs.declared.asked.Entry.{Entry}
+use Rattle.hv_pass.specs.declared.asked.Asks.{Asks}
 use Rattle.hv_pass.specs.declared.act.Act.{Act}
-use Rattle.hv_pass.specs.declared.known.Known.{Known}
-use Rattle.hv_pass.specs.Lists.{merge}
-use Rattle.hv_pass.specs.Cells.{begun_cell, turned_cell, joined, begun, turned, nothing_due, kept_due, both_due, none_due}
-use Rattle.hv_pass.specs.Passes.{pass_acts, with_cells, stopped, entered, left, passed}
-use Rattle.hv_pass.proofs.ListLemmas.{length_merge}
+use Rattle.hv_versions.specs.Cells.{begun}
+use Rattle.hv_pass.specs.Passes.{Facts, pass_acts, with_cells, asks_in, entered, passed}
 use Rattle.hv_pass.proofs.Traces.{Hits}
 use Rattle.hv_pass.proofs.Seen.{run, run-append, Moves, stays, sets, run_moves, run_filled, Cause, Always, When, Raised, raised_of, raised_always, raised_when, never_raised, raised_self}
-use Rattle.hv_pass.proofs.Firsts.{same_first}
-use Rattle.hv_pass.proofs.Exactness.{May, Reached, never, event_stepped, event_steps, joined_left, joined_right, joins, begins, begun_of, turned_left, turned_right, turned_of, may_length}
-use Rattle.hv_pass.proofs.Owed.{known_of, Fits, HereIn, acts_fit, acts_first, Comes_due, gather_first, all_first, none_asked, asked_at}
+use Rattle.hv_pass.proofs.Firsts.{self_not_after, first_of_more}
+use Rattle.hv_pass.proofs.Exactness.{May, Reached, never, event_stepped, event_steps, joined_left, joined_right, joins, begins, begun_of, turned_left, turned_right, turned_of}
+use Rattle.hv_pass.proofs.Owed.{In, IsOwed, Knows, knows_same, knows_no_more, knows_with, HereIn, acts_know, Comes_due, find_first, passed_to, passed_of}
 
 either_way : {X Y Z : Type 0} → X ⊎ Y → (X → Z) → (Y → Z) → Z
 either_way (inl p) f g = f p
@@ -27,42 +25,6 @@ some_apart v e = absurd (by e)
   where
     by : None ≡ Some v → ⊥
     by h = cc
-
--- ---- there is room for what is due
-
-joined_length : (n : ℕ) (cs ds : List Cell) → length cs ≤ n → length ds ≤ n → length (joined cs ds) ≤ n
-joined_length n [] ds h g = g
-joined_length n (c ∷ cs) [] h g = h
-joined_length zero (c ∷ cs) (d ∷ ds) h g = absurd (omega (arith, h))
-joined_length (suc n) (c ∷ cs) (d ∷ ds) h g = omega (arith, joined_length n cs ds (omega (arith, h)) (omega (arith, g)))
-
-length_mapped : {A B : Type 0} (f : A → B) (xs : List A) → length (map f xs) ≡ length xs
-length_mapped f [] = refl
-length_mapped f (x ∷ xs) = ap suc (length_mapped f xs)
-
-pub length_alike : {A : Type 0} (n : ℕ) (x : A) → length (replicate n x) ≡ n
-length_alike zero x = refl
-length_alike (suc n) x = ap suc (length_alike n x)
-
-entered_fits : (k : Known) → Fits (length k.cells) (entered k)
-entered_fits k = record { cells = omega (arith, length_mapped begun_cell k.cells); dues = length_alike (length k.cells) nothing_due }
-
-left_fits : (n : ℕ) (k t : Known) → Fits n k → Fits n (left k t)
-left_fits n k t f = record {
-  cells = omega (arith, length_merge turned_cell k.cells t.cells, f.cells);
-  dues = length_merge both_due k.dues (merge kept_due t.dues (turned k.cells t.cells)) ∙ f.dues;
-}
-
-pub passed_fits : (n : ℕ) (f : Flow (List Act)) (k : Known) → Fits n k → Fits n (passed f k)
-passed_fits n Skip k h = h
-passed_fits n (Do acts) k h = acts_fit n acts k h
-passed_fits n (Stop acts) k h = let p = acts_fit n acts k h in record { cells = omega arith; dues = p.dues }
-passed_fits n (Then a b) k h = passed_fits n b (passed a k) (passed_fits n a k h)
-passed_fits n (Either a b) k h =
-    let p = passed_fits n a k h in
-    let q = passed_fits n b (with_cells k.cells (passed a k)) (record { cells = h.cells; dues = p.dues }) in
-    record { cells = joined_length n (passed a k).cells _ p.cells q.cells; dues = q.dues }
-passed_fits n (Loop a) k h = left_fits n k (passed a (entered k)) h
 
 -- ---- what cells may be is what runs lead to
 
@@ -88,7 +50,7 @@ one_turn a cs ts i r ih v e m g = by (ih v m)
         same (stays h) = some_apart v (sym (h None) ∙ from_none)
         same (sets w h) = h g.0 ∙ (sym (h None) ∙ from_none)
 
-pub comes : (f : Flow (List Act)) (k : Known) (i : ℕ) (r : Option Bool) → May (passed f k).cells i r → Comes (Ends f) k.cells i r
+pub comes : (f : Flow (List Act)) (k : Facts) (i : ℕ) (r : Option Bool) → May (passed f k).cells i r → Comes (Ends f) k.cells i r
 comes Skip k i r m = record { q = r; es = []; before = m; is = refl; to = refl }
 comes (Do acts) k i r m = let p = event_steps acts k i r m in record { q = p.0; es = acts ∷ []; before = p.1; is = refl; to = p.2 }
 comes (Stop acts) k i r m = never m
@@ -119,7 +81,7 @@ after_turns a i xs q (more us vs p t e) = by (run_moves i us) (after_turns a i v
     by (stays h) (inl g) = inl (all ∙ (g ∙ h q))
     by (sets v h) (inl g) = inr (us, v, p, h None, all ∙ (g ∙ h q))
 
-pub stands : (f : Flow (List Act)) (k : Known) (i : ℕ) (q : Option Bool) (es : List (List Act)) → May k.cells i q → Ends f es → May (passed f k).cells i (run i es q)
+pub stands : (f : Flow (List Act)) (k : Facts) (i : ℕ) (q : Option Bool) (es : List (List Act)) → May k.cells i q → Ends f es → May (passed f k).cells i (run i es q)
 stands Skip k i q es m e = subst (λ (w : List (List Act)). May k.cells i (run i w q)) (sym e) m
 stands (Do acts) k i q es m e = subst (λ (w : List (List Act)). May (pass_acts acts k).cells i (run i w q)) (sym e) (event_stepped acts k i q m)
 stands (Stop acts) k i q es m e = absurd e
@@ -149,7 +111,7 @@ pub record Raises (f : Flow (List Act)) (cs : List Cell) (c : Cause) (r : Refusa
 
 -- the claim about a flow
 abbrev pub Collects : Flow (List Act) → Type 1
-Collects f = (n : ℕ) (k : Known) (c : Cause) (T : Refusal → Type 0) → Fits n k → IsFirst T (known_of k c) → IsFirst (λ r. T r ⊎ Raises f k.cells c r) (known_of (passed f k) c)
+Collects f = (k : Facts) (c : Cause) (T : Refusal → Type 0) → Knows k c T → Knows (passed f k) c (λ r. T r ⊎ Raises f k.cells c r)
 
 alone_to : (x : List Act) (f : Flow (List Act)) → Hits f [] x → (cs : List Cell) (c : Cause) (T : Refusal → Type 0) (r : Refusal) → T r ⊎ HereIn cs x c r → T r ⊎ Raises f cs c r
 alone_to x f hit cs c T r (inl t) = inl t
@@ -162,7 +124,7 @@ alone_of x f is cs c T r (inr v) = inr (v.i, v.q, v.before, here (is v.es v.e v.
     here : (v.es ≡ []) × (v.e ≡ x) → Raised v.i v.q x c r
     here h = subst (λ (z : List Act). Raised v.i v.q z c r) h.1 (subst (λ (w : List (List Act)). Raised v.i (run v.i w v.q) v.e c r) h.0 v.raised)
 
-then_to : (a b : Flow (List Act)) (k : Known) (c : Cause) (T : Refusal → Type 0) (r : Refusal) → (T r ⊎ Raises a k.cells c r) ⊎ Raises b (passed a k).cells c r → T r ⊎ Raises (Then a b) k.cells c r
+then_to : (a b : Flow (List Act)) (k : Facts) (c : Cause) (T : Refusal → Type 0) (r : Refusal) → (T r ⊎ Raises a k.cells c r) ⊎ Raises b (passed a k).cells c r → T r ⊎ Raises (Then a b) k.cells c r
 then_to a b k c T r (inl (inl t)) = inl t
 then_to a b k c T r (inl (inr v)) = inr (record { es = v.es; e = v.e; i = v.i; q = v.q; hits = inl v.hits; before = v.before; raised = v.raised })
 then_to a b k c T r (inr v) =
@@ -177,7 +139,7 @@ then_to a b k c T r (inr v) =
       raised = subst (λ (u : Option Bool). Raised v.i u v.e c r) (sym (run-append v.i s.es v.es s.q ∙ ap (run v.i v.es) s.to)) v.raised;
     })
 
-then_of : (a b : Flow (List Act)) (k : Known) (c : Cause) (T : Refusal → Type 0) (r : Refusal) → T r ⊎ Raises (Then a b) k.cells c r → (T r ⊎ Raises a k.cells c r) ⊎ Raises b (passed a k).cells c r
+then_of : (a b : Flow (List Act)) (k : Facts) (c : Cause) (T : Refusal → Type 0) (r : Refusal) → T r ⊎ Raises (Then a b) k.cells c r → (T r ⊎ Raises a k.cells c r) ⊎ Raises b (passed a k).cells c r
 then_of a b k c T r (inl t) = inl (inl t)
 then_of a b k c T r (inr v) = by v.hits
   where
@@ -216,7 +178,7 @@ turn_event : (i : ℕ) (es : List (List Act)) (q : Option Bool) (e : List Act) (
 turn_event i es q e c r h p = subst (λ (u : Option Bool). Raised i (run i es u) e c r) h p
 
 -- a refusal in a turn comes after turns that lead to where it begins
-loop_raises : (a : Flow (List Act)) (k : Known) (i : ℕ) (u : Option Bool) (es : List (List Act)) (e : List Act) (c : Cause) (r : Refusal) →
+loop_raises : (a : Flow (List Act)) (k : Facts) (i : ℕ) (u : Option Bool) (es : List (List Act)) (e : List Act) (c : Cause) (r : Refusal) →
     May (passed (Loop a) k).cells i u → Hits a es e → Raised i (run i es u) e c r → Raises (Loop a) k.cells c r
 loop_raises a k i u es e c r m h p =
     let s = comes (Loop a) k i u m in
@@ -230,7 +192,7 @@ loop_raises a k i u es e c r m h p =
       raised = subst (λ (w : Option Bool). Raised i w e c r) (sym (run-append i s.es es s.q ∙ ap (run i es) s.to)) p;
     }
 
-always_to : (a : Flow (List Act)) (k : Known) (r : Refusal) → InTurn a k.cells Always r → Raises (Loop a) k.cells Always r
+always_to : (a : Flow (List Act)) (k : Facts) (r : Refusal) → InTurn a k.cells Always r → Raises (Loop a) k.cells Always r
 always_to a k r v = by (begun_of k.cells v.i v.q v.before)
   where
     by : (v.q ≡ None) × Reached k.cells v.i → Raises (Loop a) k.cells Always r
@@ -243,7 +205,7 @@ always_to a k r v = by (begun_of k.cells v.i v.q v.before)
         start None = from_none
         start (Some w) = subst (λ (z : Option Bool). Raised v.i z v.e Always r) (sym (run_filled w v.i v.es None)) (raised_always w v.i (run v.i v.es None) v.e r from_none)
 
-when_to : (a : Flow (List Act)) (k : Known) (j : ℕ) (w : Bool) (r : Refusal) → May (passed (Loop a) k).cells j (Some w) → InTurn a k.cells (When j w) r → Raises (Loop a) k.cells Always r
+when_to : (a : Flow (List Act)) (k : Facts) (j : ℕ) (w : Bool) (r : Refusal) → May (passed (Loop a) k).cells j (Some w) → InTurn a k.cells (When j w) r → Raises (Loop a) k.cells Always r
 when_to a k j w r m v =
     let e = (begun_of k.cells v.i v.q v.before).0 in
     let p = turn_event v.i v.es v.q v.e (When j w) r e v.raised in
@@ -252,7 +214,7 @@ when_to a k j w r m v =
     loop_raises a k v.i (Some w) v.es v.e Always r (subst (λ (z : ℕ). May (passed (Loop a) k).cells z (Some w)) s m) v.hits
     (subst (λ (z : Option Bool). Raised v.i z v.e Always r) (sym (run_filled w v.i v.es None)) (raised_when w v.i (run v.i v.es None) v.e r p'))
 
-kept_to : (a : Flow (List Act)) (k : Known) (j : ℕ) (w : Bool) (r : Refusal) → May (passed (Loop a) k).cells j None → InTurn a k.cells (When j w) r → Raises (Loop a) k.cells (When j w) r
+kept_to : (a : Flow (List Act)) (k : Facts) (j : ℕ) (w : Bool) (r : Refusal) → May (passed (Loop a) k).cells j None → InTurn a k.cells (When j w) r → Raises (Loop a) k.cells (When j w) r
 kept_to a k j w r m v =
     let e = (begun_of k.cells v.i v.q v.before).0 in
     let p = turn_event v.i v.es v.q v.e (When j w) r e v.raised in
@@ -260,13 +222,13 @@ kept_to a k j w r m v =
     loop_raises a k v.i None v.es v.e (When j w) r (subst (λ (z : ℕ). May (passed (Loop a) k).cells z None) s m) v.hits p
 
 -- the same the other way: what the loop refuses is refused in a turn
-abbrev AlwaysParts : Flow (List Act) → Known → Refusal → Type 0
+abbrev AlwaysParts : Flow (List Act) → Facts → Refusal → Type 0
 AlwaysParts a k r = InTurn a k.cells Always r ⊎ Comes_due (passed (Loop a) k).cells (λ j w. InTurn a k.cells (When j w)) r
 
-in_turn : (a : Flow (List Act)) (k : Known) (i : ℕ) (es : List (List Act)) (e : List Act) (c : Cause) (r : Refusal) → Reached k.cells i → Hits a es e → Raised i (run i es None) e c r → InTurn a k.cells c r
+in_turn : (a : Flow (List Act)) (k : Facts) (i : ℕ) (es : List (List Act)) (e : List Act) (c : Cause) (r : Refusal) → Reached k.cells i → Hits a es e → Raised i (run i es None) e c r → InTurn a k.cells c r
 in_turn a k i es e c r g h p = record { es = es; e = e; i = i; q = None; hits = h; before = begins k.cells i g; raised = p }
 
-always_by : (a : Flow (List Act)) (k : Known) (i : ℕ) (u : Option Bool) (es : List (List Act)) (e : List Act) (r : Refusal) →
+always_by : (a : Flow (List Act)) (k : Facts) (i : ℕ) (u : Option Bool) (es : List (List Act)) (e : List Act) (r : Refusal) →
     Reached k.cells i → May (passed (Loop a) k).cells i u → Hits a es e → Raised i (run i es u) e Always r → AlwaysParts a k r
 always_by a k i None es e r g m h p = inl (in_turn a k i es e Always r g h p)
 always_by a k i (Some w) es e r g m h p = by (raised_of w i (run i es None) e r (subst (λ (z : Option Bool). Raised i z e Always r) (run_filled w i es None) p))
@@ -275,94 +237,89 @@ always_by a k i (Some w) es e r g m h p = by (raised_of w i (run i es None) e r 
     by (inl q) = inl (in_turn a k i es e Always r g h q)
     by (inr q) = inr (i, w, m, in_turn a k i es e (When i w) r g h q)
 
-always_of : (a : Flow (List Act)) (k : Known) (r : Refusal) → Raises (Loop a) k.cells Always r → AlwaysParts a k r
+always_of : (a : Flow (List Act)) (k : Facts) (r : Refusal) → Raises (Loop a) k.cells Always r → AlwaysParts a k r
 always_of a k r v = by v.hits
   where
     by : Hits (Loop a) v.es v.e → AlwaysParts a k r
     by (xs, ys, t, h, e) = always_by a k v.i (run v.i xs v.q) ys v.e r (v.q, v.before) (stands (Loop a) k v.i v.q xs v.before t) h
         (subst (λ (u : Option Bool). Raised v.i u v.e Always r) (ap (λ (w : List (List Act)). run v.i w v.q) e ∙ run-append v.i xs ys v.q) v.raised)
 
-kept_by : (a : Flow (List Act)) (k : Known) (i : ℕ) (u : Option Bool) (es : List (List Act)) (e : List Act) (j : ℕ) (w : Bool) (r : Refusal) →
+kept_by : (a : Flow (List Act)) (k : Facts) (i : ℕ) (u : Option Bool) (es : List (List Act)) (e : List Act) (j : ℕ) (w : Bool) (r : Refusal) →
     Reached k.cells i → May (passed (Loop a) k).cells i u → Hits a es e → Raised i (run i es u) e (When j w) r → May (passed (Loop a) k).cells j None × InTurn a k.cells (When j w) r
 kept_by a k i None es e j w r g m h p =
     (subst (λ (z : ℕ). May (passed (Loop a) k).cells z None) (sym (raised_self i (run i es None) e j w r p)) m, in_turn a k i es e (When j w) r g h p)
 kept_by a k i (Some x) es e j w r g m h p = absurd (never_raised x i (run i es None) e j w r (subst (λ (z : Option Bool). Raised i z e (When j w) r) (run_filled x i es None) p))
 
-kept_of : (a : Flow (List Act)) (k : Known) (j : ℕ) (w : Bool) (r : Refusal) → Raises (Loop a) k.cells (When j w) r → May (passed (Loop a) k).cells j None × InTurn a k.cells (When j w) r
+kept_of : (a : Flow (List Act)) (k : Facts) (j : ℕ) (w : Bool) (r : Refusal) → Raises (Loop a) k.cells (When j w) r → May (passed (Loop a) k).cells j None × InTurn a k.cells (When j w) r
 kept_of a k j w r v = by v.hits
   where
     by : Hits (Loop a) v.es v.e → May (passed (Loop a) k).cells j None × InTurn a k.cells (When j w) r
     by (xs, ys, t, h, e) = kept_by a k v.i (run v.i xs v.q) ys v.e j w r (v.q, v.before) (stands (Loop a) k v.i v.q xs v.before t) h
         (subst (λ (u : Option Bool). Raised v.i u v.e (When j w) r) (ap (λ (z : List (List Act)). run v.i z v.q) e ∙ run-append v.i xs ys v.q) v.raised)
 
--- what is due as the turn ends
-turn_due : (a : Flow (List Act)) → Collects a → (k : Known) (j : ℕ) (w : Bool) → IsFirst (InTurn a k.cells (When j w)) (asked_at (passed a (entered k)).dues j w)
-turn_due a ih k j w = same_first _ _ _ (λ r p. to r p) (λ r p. inr p) (ih (length k.cells) (entered k) (When j w) (λ r. ⊥) (entered_fits k) start)
+-- what is asked as the turn ends
+turn_asked : (a : Flow (List Act)) → Collects a → (k : Facts) (j : ℕ) (w : Bool) → Knows (passed a (entered k)) (When j w) (InTurn a k.cells (When j w))
+turn_asked a ih k j w =
+    knows_same (passed a (entered k)) (When j w) (λ r. ⊥ ⊎ InTurn a k.cells (When j w) r) (InTurn a k.cells (When j w)) (λ r p. to r p) (λ r p. inr p) (ih (entered k) (When j w) (λ r. ⊥) (λ r. (λ p. absurd p, λ p. p)))
   where
-    start : IsFirst (λ (r : Refusal). ⊥) (asked_at (none_due k.cells) j w)
-    start = subst (λ (v : Option Refusal). IsFirst (λ (r : Refusal). ⊥) v) (sym (none_asked k.cells j w)) (λ r h. h)
-
     to : (r : Refusal) → ⊥ ⊎ InTurn a k.cells (When j w) r → InTurn a k.cells (When j w) r
     to r (inl p) = absurd p
     to r (inr p) = p
 
-loop_first : (a : Flow (List Act)) → Collects a → Collects (Loop a)
-loop_first a ih n k Always T f h =
-    same_first _ _ _ (λ r p. to r p) (λ r p. back r p)
-    (gather_first (passed (Loop a) k).cells (passed a (entered k)).dues (passed a (entered k)).found (λ r. T r ⊎ InTurn a k.cells Always r) (λ j w. InTurn a k.cells (When j w))
-    (ih (length k.cells) (entered k) Always T (entered_fits k) h) (λ j w. turn_due a ih k j w))
+-- what the turn refuses at once, and what is asked in it and comes due behind the loop
+abbrev TurnParts : Flow (List Act) → Facts → (Refusal → Type 0) → Refusal → Type 0
+TurnParts a k T r = (T r ⊎ InTurn a k.cells Always r) ⊎ Comes_due (passed (Loop a) k).cells (In (passed a (entered k)).asked.list) r
+
+loop_knows : (a : Flow (List Act)) → Collects a → Collects (Loop a)
+loop_knows a ih k Always T h =
+    first_of_more (TurnParts a k T) (λ r. T r ⊎ Raises (Loop a) k.cells Always r) (passed (Loop a) k).found (λ r p. to r p) (λ r p. back r p)
+    (find_first (passed (Loop a) k).cells (passed a (entered k)).asked.list (passed a (entered k)).found (λ r. T r ⊎ InTurn a k.cells Always r) (ih (entered k) Always T h))
   where
-    to : (r : Refusal) → (T r ⊎ InTurn a k.cells Always r) ⊎ Comes_due (passed (Loop a) k).cells (λ j w. InTurn a k.cells (When j w)) r → T r ⊎ Raises (Loop a) k.cells Always r
+    to : (r : Refusal) → TurnParts a k T r → T r ⊎ Raises (Loop a) k.cells Always r
     to r (inl (inl t)) = inl t
     to r (inl (inr v)) = inr (always_to a k r v)
-    to r (inr v) = inr (when_to a k v.0 v.1 r v.2 v.3)
+    to r (inr v) = inr (when_to a k v.0 v.1 r v.2 ((turn_asked a ih k v.0 v.1 r).1 v.3))
 
-    split : (r : Refusal) → AlwaysParts a k r → (T r ⊎ InTurn a k.cells Always r) ⊎ Comes_due (passed (Loop a) k).cells (λ j w. InTurn a k.cells (When j w)) r
-    split r (inl v) = inl (inr v)
-    split r (inr v) = inr v
+    split : (r : Refusal) → AlwaysParts a k r → (s : Refusal) × TurnParts a k T s × NotAfter s r
+    split r (inl v) = (r, inl (inr v), self_not_after r)
+    split r (inr v) = let p = (turn_asked a ih k v.0 v.1 r).0 v.3 in (p.0, inr (v.0, v.1, v.2, p.1), p.2)
 
-    back : (r : Refusal) → T r ⊎ Raises (Loop a) k.cells Always r → (T r ⊎ InTurn a k.cells Always r) ⊎ Comes_due (passed (Loop a) k).cells (λ j w. InTurn a k.cells (When j w)) r
-    back r (inl t) = inl (inl t)
+    back : (r : Refusal) → T r ⊎ Raises (Loop a) k.cells Always r → (s : Refusal) × TurnParts a k T s × NotAfter s r
+    back r (inl t) = (r, inl (inl t), self_not_after r)
     back r (inr v) = split r (always_of a k r v)
-loop_first a ih n k (When j w) T f h =
-    same_first _ _ _ (λ r p. to r p) (λ r p. back r p)
-    (all_first k.dues (passed (Loop a) k).cells (passed a (entered k)).dues j w T (InTurn a k.cells (When j w))
-    (omega (arith, (passed_fits (length k.cells) a (entered k) (entered_fits k)).dues, length_merge turned_cell k.cells (passed a (entered k)).cells))
-    (λ e. omega (arith, may_length (passed (Loop a) k).cells j None e, length_merge turned_cell k.cells (passed a (entered k)).cells, f.cells, f.dues))
-    h (turn_due a ih k j w))
+loop_knows a ih k (When j w) T h = λ r. (λ p. passed_to cs asks outer j w r (to r p), λ p. back r (passed_of cs asks outer j w r p))
   where
-    to : (r : Refusal) → T r ⊎ (May (passed (Loop a) k).cells j None × InTurn a k.cells (When j w) r) → T r ⊎ Raises (Loop a) k.cells (When j w) r
-    to r (inl t) = inl t
-    to r (inr v) = inr (kept_to a k j w r v.0 v.1)
+    cs : List Cell
+    cs = (passed (Loop a) k).cells
 
-    back : (r : Refusal) → T r ⊎ Raises (Loop a) k.cells (When j w) r → T r ⊎ (May (passed (Loop a) k).cells j None × InTurn a k.cells (When j w) r)
-    back r (inl t) = inl t
-    back r (inr v) = inr (kept_of a k j w r v)
+    asks : List Entry
+    asks = (passed a (entered k)).asked.list
+
+    outer : Asks
+    outer = asks_in k.asked.list (passed a (entered k)).asked
+
+    to : (r : Refusal) → T r ⊎ Raises (Loop a) k.cells (When j w) r → IsOwed k.asked.list j w r ⊎ (May cs j None × IsOwed asks j w r)
+    to r (inl t) = inl ((h r).0 t)
+    to r (inr v) = let p = kept_of a k j w r v in inr (p.0, (turn_asked a ih k j w r).0 p.1)
+
+    back : (r : Refusal) → In k.asked.list j w r ⊎ (May cs j None × In asks j w r) → T r ⊎ Raises (Loop a) k.cells (When j w) r
+    back r (inl p) = inl ((h r).1 p)
+    back r (inr p) = inr (kept_to a k j w r p.0 ((turn_asked a ih k j w r).1 p.1))
 
 -- ---- any flow
 
-known_same : (k m : Known) (c : Cause) → k.dues ≡ m.dues → k.found ≡ m.found → known_of k c ≡ known_of m c
-known_same k m Always d f = f
-known_same k m (When i v) d f = ap (λ (w : List Due). asked_at w i v) d
-
 pub collects : (f : Flow (List Act)) → Collects f
-collects Skip n k c T f h = same_first T _ _ (λ r t. inl t) (λ r p. by r p) h
-  where
-    by : (r : Refusal) → T r ⊎ Raises Skip k.cells c r → T r
-    by r (inl t) = t
-    by r (inr v) = absurd v.hits
-collects (Do acts) n k c T f h =
-    same_first _ _ _ (λ r p. alone_to acts (Do acts) (refl, refl) k.cells c T r p) (λ r p. alone_of acts (Do acts) (λ es e q. q) k.cells c T r p) (acts_first n acts k c T f h)
-collects (Stop acts) n k c T f h =
-    subst (λ (v : Option Refusal). IsFirst (λ r. T r ⊎ Raises (Stop acts) k.cells c r) v) (known_same (pass_acts acts k) (stopped (pass_acts acts k)) c refl refl)
-    (same_first _ _ _ (λ r p. alone_to acts (Stop acts) (refl, refl) k.cells c T r p) (λ r p. alone_of acts (Stop acts) (λ es e q. q) k.cells c T r p) (acts_first n acts k c T f h))
-collects (Then a b) n k c T f h =
-    same_first _ _ _ (λ r p. then_to a b k c T r p) (λ r p. then_of a b k c T r p)
-    (collects b n (passed a k) c (λ r. T r ⊎ Raises a k.cells c r) (passed_fits n a k f) (collects a n k c T f h))
-collects (Either a b) n k c T f h =
+collects Skip k c T h = knows_no_more k c T (Raises Skip k.cells c) (λ r v. v.hits) h
+collects (Do acts) k c T h = knows_same (pass_acts acts k) c _ _ (λ r p. alone_to acts (Do acts) (refl, refl) k.cells c T r p) (λ r p. alone_of acts (Do acts) (λ es e q. q) k.cells c T r p) (acts_know acts k c T h)
+collects (Stop acts) k c T h =
+    knows_with [] (pass_acts acts k) c (λ r. T r ⊎ Raises (Stop acts) k.cells c r)
+    (knows_same (pass_acts acts k) c _ _ (λ r p. alone_to acts (Stop acts) (refl, refl) k.cells c T r p) (λ r p. alone_of acts (Stop acts) (λ es e q. q) k.cells c T r p) (acts_know acts k c T h))
+collects (Then a b) k c T h =
+    knows_same (passed (Then a b) k) c _ _ (λ r p. then_to a b k c T r p) (λ r p. then_of a b k c T r p) (collects b (passed a k) c (λ r. T r ⊎ Raises a k.cells c r) (collects a k c T h))
+collects (Either a b) k c T h =
     let side = with_cells k.cells (passed a k) in
-    let one = subst (λ (v : Option Refusal). IsFirst (λ r. T r ⊎ Raises a k.cells c r) v) (known_same (passed a k) side c refl refl) (collects a n k c T f h) in
-    let two = collects b n side c (λ r. T r ⊎ Raises a k.cells c r) (record { cells = f.cells; dues = (passed_fits n a k f).dues }) one in
-    subst (λ (v : Option Refusal). IsFirst (λ r. T r ⊎ Raises (Either a b) k.cells c r) v) (known_same (passed b side) (passed (Either a b) k) c refl refl)
-    (same_first _ _ _ (λ r p. either_to a b k.cells c T r p) (λ r p. either_of a b k.cells c T r p) two)
-collects (Loop a) n k c T f h = loop_first a (collects a) n k c T f h
+    let one = knows_with k.cells (passed a k) c (λ r. T r ⊎ Raises a k.cells c r) (collects a k c T h) in
+    let two = collects b side c (λ r. T r ⊎ Raises a k.cells c r) one in
+    knows_with (passed (Either a b) k).cells (passed b side) c (λ r. T r ⊎ Raises (Either a b) k.cells c r)
+    (knows_same (passed b side) c _ _ (λ r p. either_to a b k.cells c T r p) (λ r p. either_of a b k.cells c T r p) two)
+collects (Loop a) k c T h = loop_knows a (collects a) k c T h

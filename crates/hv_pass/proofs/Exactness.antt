@@ -1,11 +1,11 @@
 -- What cells may be, step by step: no more and no less than what events lead to.
-use Rattle.std.proofs.Common.{◌≡◌, ◌⊎◌, inl, inr, ℕ, zero, suc, ◌<◌, Bool, true, false, ◌||◌, ◌&&◌, not, if◌then◌else◌, List, [], ◌∷◌, length, Option, Some, None, refl, ◌∙◌, ap, arith}
-use Rattle.hv_pass.specs.declared.cell.Cell.{Cell}
+use Rattle.std.proofs.Common.{◌≡◌, ◌⊎◌, inl, inr, ℕ, zero, suc, ◌+◌, Bool, true, false, ◌||◌, ◌&&◌, not, if◌then◌else◌, List, [], ◌∷◌, Option, Some, None, refl, sym, ◌∙◌, ap, subst, arith}
+use Rattle.hv_versions.specs.declared.cell.Cell.{Cell}
 use Rattle.hv_pass.specs.declared.act.Act.{Act}
 use Rattle.hv_pass.specs.declared.act.Act.TheVariants as act
-use Rattle.hv_pass.specs.declared.known.Known.{Known}
-use Rattle.hv_pass.specs.Cells.{is_reached, cell_may, set_cells, may_in, joined, begun, turned}
-use Rattle.hv_pass.specs.Passes.{pass_act, pass_acts}
+use Rattle.hv_versions.specs.Cells.{is_reached, set_cells, joined, begun, turned}
+use Rattle.hv_pass.specs.Cells.{kept_at, may_at, may_in}
+use Rattle.hv_pass.specs.Passes.{Facts, pass_act, pass_acts}
 use Rattle.hv_pass.proofs.Seen.{inside, seen_after, event_after}
 
 abbrev pub pick : Bool → Bool → Bool → Option Bool → Bool
@@ -99,19 +99,19 @@ steps_set v zero (suc count) (c ∷ cs) zero r h =
 steps_set v zero (suc count) (c ∷ cs) (suc i) r h = steps_set v zero count cs i r h
 steps_set v zero zero (c ∷ cs) i r h = (r, h, refl)
 
-pub act_stepped : (a : Act) (k : Known) (i : ℕ) (q : Option Bool) → May k.cells i q → May (pass_act a k).cells i (seen_after i a q)
+pub act_stepped : (a : Act) (k : Facts) (i : ℕ) (q : Option Bool) → May k.cells i q → May (pass_act a k).cells i (seen_after i a q)
 act_stepped (act.Set range value) k i q h = stepped_set value range.from range.count k.cells i q h
 act_stepped (act.Refuse range value r) k i q h = h
 
-pub act_steps : (a : Act) (k : Known) (i : ℕ) (r : Option Bool) → May (pass_act a k).cells i r → (q : Option Bool) × May k.cells i q × (seen_after i a q ≡ r)
+pub act_steps : (a : Act) (k : Facts) (i : ℕ) (r : Option Bool) → May (pass_act a k).cells i r → (q : Option Bool) × May k.cells i q × (seen_after i a q ≡ r)
 act_steps (act.Set range value) k i r h = steps_set value range.from range.count k.cells i r h
 act_steps (act.Refuse range value t) k i r h = (r, h, refl)
 
-pub event_stepped : (acts : List Act) (k : Known) (i : ℕ) (q : Option Bool) → May k.cells i q → May (pass_acts acts k).cells i (event_after i acts q)
+pub event_stepped : (acts : List Act) (k : Facts) (i : ℕ) (q : Option Bool) → May k.cells i q → May (pass_acts acts k).cells i (event_after i acts q)
 event_stepped [] k i q h = h
 event_stepped (a ∷ acts) k i q h = event_stepped acts (pass_act a k) i (seen_after i a q) (act_stepped a k i q h)
 
-pub event_steps : (acts : List Act) (k : Known) (i : ℕ) (r : Option Bool) → May (pass_acts acts k).cells i r → (q : Option Bool) × May k.cells i q × (event_after i acts q ≡ r)
+pub event_steps : (acts : List Act) (k : Facts) (i : ℕ) (r : Option Bool) → May (pass_acts acts k).cells i r → (q : Option Bool) × May k.cells i q × (event_after i acts q ≡ r)
 event_steps [] k i r h = (r, h, refl)
 event_steps (a ∷ acts) k i r h =
     let p = event_steps acts (pass_act a k) i r h in
@@ -215,27 +215,70 @@ turned_of (c ∷ cs) (t ∷ ts) zero q h = by (turn_of c.kept c.no c.yes t.kept 
     by (inr g) = inr (g.0, g.1, g.2, reached_to c.kept c.no c.yes g.3)
 turned_of (c ∷ cs) (t ∷ ts) (suc i) q h = turned_of cs ts i q h
 
-pub may_length : (cs : List Cell) (i : ℕ) (q : Option Bool) → May cs i q → i < length cs
-may_length [] i q h = never h
-may_length (c ∷ cs) zero q h = omega arith
-may_length (c ∷ cs) (suc i) q h = omega (arith, may_length cs i q h)
-
 -- ---- a look at some cells
 
-pub may_found : (v : Bool) (from count : ℕ) (cs : List Cell) → may_in v from count cs ≡ true → (i : ℕ) × May cs i (Some v) × (inside from count i ≡ true)
-may_found v from count [] h = never h
-may_found v (suc from) count (c ∷ cs) h = let p = may_found v from count cs h in (suc p.0, p.1, p.2)
-may_found v zero zero (c ∷ cs) h = never h
-may_found v zero (suc count) (c ∷ cs) h = by (or_either (cell_may c v) (may_in v zero count cs) h) (λ g. may_found v zero count cs g)
+pub kept_same : (cs : List Cell) (i : ℕ) → kept_at cs i ≡ seen_at cs i None
+kept_same [] i = refl
+kept_same (c ∷ cs) zero = refl
+kept_same (c ∷ cs) (suc i) = kept_same cs i
+
+pub may_same : (cs : List Cell) (i : ℕ) (v : Bool) → may_at cs i v ≡ seen_at cs i (Some v)
+may_same [] i v = refl
+may_same (c ∷ cs) zero v = refl
+may_same (c ∷ cs) (suc i) v = may_same cs i v
+
+pub inside_none : (from i : ℕ) → inside from zero i ≡ false
+inside_none zero i = refl
+inside_none (suc from) zero = refl
+inside_none (suc from) (suc i) = inside_none from i
+
+pub inside_more : (from n i : ℕ) → inside from n i ≡ true → inside from (suc n) i ≡ true
+inside_more (suc from) n zero h = h
+inside_more (suc from) n (suc i) h = inside_more from n i h
+inside_more zero zero i h = never h
+inside_more zero (suc n) zero h = refl
+inside_more zero (suc n) (suc i) h = inside_more zero n i h
+
+pub inside_last : (from n i : ℕ) → i ≡ from + n → inside from (suc n) i ≡ true
+inside_last (suc from) n zero e = absurd (omega (arith, e))
+inside_last (suc from) n (suc i) e = inside_last from n i (omega (arith, e))
+inside_last zero zero zero e = refl
+inside_last zero zero (suc i) e = absurd (omega (arith, e))
+inside_last zero (suc n) zero e = refl
+inside_last zero (suc n) (suc i) e = inside_last zero n i (omega (arith, e))
+
+pub inside_or_last : (from n i : ℕ) → inside from (suc n) i ≡ true → (inside from n i ≡ true) ⊎ (i ≡ from + n)
+inside_or_last (suc from) n zero h = never h
+inside_or_last (suc from) n (suc i) h = by (inside_or_last from n i h)
   where
-    by : (cell_may c v ≡ true) ⊎ (may_in v zero count cs ≡ true) → (may_in v zero count cs ≡ true → (i : ℕ) × May cs i (Some v) × (inside zero count i ≡ true)) → (i : ℕ) × May (c ∷ cs) i (Some v) × (inside zero (suc count) i ≡ true)
-    by (inl g) ih = (zero, g, refl)
-    by (inr g) ih = let p = ih g in (suc p.0, p.1, p.2)
+    by : (inside from n i ≡ true) ⊎ (i ≡ from + n) → (inside from n i ≡ true) ⊎ (suc i ≡ suc from + n)
+    by (inl g) = inl g
+    by (inr e) = inr (omega (arith, e))
+inside_or_last zero zero zero h = inr (omega arith)
+inside_or_last zero zero (suc i) h = never h
+inside_or_last zero (suc n) zero h = inl refl
+inside_or_last zero (suc n) (suc i) h = by (inside_or_last zero n i h)
+  where
+    by : (inside zero n i ≡ true) ⊎ (i ≡ zero + n) → (inside zero n i ≡ true) ⊎ (suc i ≡ zero + suc n)
+    by (inl g) = inl g
+    by (inr e) = inr (omega (arith, e))
+
+-- some cell of the range may have the value
+abbrev MayInside : Bool → ℕ → ℕ → List Cell → Type 0
+MayInside v from count cs = (i : ℕ) × May cs i (Some v) × (inside from count i ≡ true)
+
+pub may_found : (v : Bool) (from count : ℕ) (cs : List Cell) → may_in v from count cs ≡ true → MayInside v from count cs
+may_found v from zero cs h = never h
+may_found v from (suc count) cs h = by (or_either (may_in v from count cs) (may_at cs (from + count) v) h) (λ g. may_found v from count cs g)
+  where
+    by : (may_in v from count cs ≡ true) ⊎ (may_at cs (from + count) v ≡ true) → (may_in v from count cs ≡ true → MayInside v from count cs) → MayInside v from (suc count) cs
+    by (inl g) ih = let p = ih g in (p.0, p.1, inside_more from count p.0 p.2)
+    by (inr g) ih = (from + count, sym (may_same cs (from + count) v) ∙ g, inside_last from count (from + count) refl)
 
 pub may_here : (v : Bool) (from count : ℕ) (cs : List Cell) (i : ℕ) → May cs i (Some v) → inside from count i ≡ true → may_in v from count cs ≡ true
-may_here v from count [] i m g = never m
-may_here v (suc from) count (c ∷ cs) zero m g = never g
-may_here v (suc from) count (c ∷ cs) (suc i) m g = may_here v from count cs i m g
-may_here v zero zero (c ∷ cs) i m g = never g
-may_here v zero (suc count) (c ∷ cs) zero m g = or_left (cell_may c v) (may_in v zero count cs) m
-may_here v zero (suc count) (c ∷ cs) (suc i) m g = or_right (cell_may c v) (may_in v zero count cs) (may_here v zero count cs i m g)
+may_here v from zero cs i m g = never (sym (inside_none from i) ∙ g)
+may_here v from (suc count) cs i m g = by (inside_or_last from count i g) (λ h. may_here v from count cs i m h)
+  where
+    by : (inside from count i ≡ true) ⊎ (i ≡ from + count) → (inside from count i ≡ true → may_in v from count cs ≡ true) → (may_in v from count cs || may_at cs (from + count) v) ≡ true
+    by (inl h) ih = or_left (may_in v from count cs) (may_at cs (from + count) v) (ih h)
+    by (inr e) ih = or_right (may_in v from count cs) (may_at cs (from + count) v) (may_same cs (from + count) v ∙ subst (λ (j : ℕ). May cs j (Some v)) e m)

@@ -9,7 +9,7 @@ pub same_first : (P S : Refusal → Type 0) (v : Option Refusal) → ((r : Refus
 same_first P S None to back h = λ r s. h r (back r s)
 same_first P S (Some r) to back h = (to r h.0, λ s p. h.1 s (back s p))
 
-self_not_after : (r : Refusal) → NotAfter r r
+pub self_not_after : (r : Refusal) → NotAfter r r
 self_not_after r = inr (refl, omega arith)
 
 not_after_by : (a b m n : ℕ) → (nat_lt b a || (nat_eq b a && nat_lt n m)) ≡ false → (a < b) ⊎ ((a ≡ b) × (m ≤ n))
@@ -32,8 +32,17 @@ trans_by a b c l m n (inl h) (inr g) = inl (omega (arith, h, g.0))
 trans_by a b c l m n (inr h) (inl g) = inl (omega (arith, h.0, g))
 trans_by a b c l m n (inr h) (inr g) = inr (omega (arith, h.0, g.0), omega (arith, h.1, g.1))
 
-not_after_trans : (x y z : Refusal) → NotAfter x y → NotAfter y z → NotAfter x z
+pub not_after_trans : (x y z : Refusal) → NotAfter x y → NotAfter y z → NotAfter x z
 not_after_trans x y z h g = trans_by x.place.start y.place.start z.place.start (number_of x.rule) (number_of y.rule) (number_of z.rule) h g
+
+-- where none is before another
+pub not_before : (x y : Refusal) → is_before y x ≡ false → NotAfter x y
+not_before x y h = not_after_by x.place.start y.place.start (number_of x.rule) (number_of y.rule) h
+
+-- the first of some is the first of more, where none of these is before each of those
+pub first_of_more : (P S : Refusal → Type 0) (v : Option Refusal) → ((r : Refusal) → P r → S r) → ((r : Refusal) → S r → (s : Refusal) × P s × NotAfter s r) → IsFirst P v → IsFirst S v
+first_of_more P S None to back h = λ r g. let p = back r g in h p.0 p.1
+first_of_more P S (Some x) to back h = (to x h.0, λ r g. let p = back r g in not_after_trans x p.0 r (h.1 p.0 p.1) p.2)
 
 pub earlier_first : (P S : Refusal → Type 0) (v w : Option Refusal) → IsFirst P v → IsFirst S w → IsFirst (λ r. P r ⊎ S r) (earlier v w)
 earlier_first P S None None h g = by
@@ -63,7 +72,7 @@ earlier_first P S (Some x) (Some y) h g = choice (is_before y x) refl
       where
         by : (r : Refusal) → P r ⊎ S r → NotAfter x r
         by r (inl p) = h.1 r p
-        by r (inr p) = not_after_trans x y r (not_after_by x.place.start y.place.start (number_of x.rule) (number_of y.rule) e) (g.1 r p)
+        by r (inr p) = not_after_trans x y r (not_before x y e) (g.1 r p)
 
 -- the first of those that are, where that is said
 pub when_first : (b : Bool) (P : Refusal → Type 0) (v : Option Refusal) → IsFirst P v → IsFirst (λ r. (b ≡ true) × P r) (when b v)

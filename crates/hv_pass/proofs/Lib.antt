@@ -1,7 +1,6 @@
 pub mod Stacks
-pub mod ListLemmas
 pub mod CellLemmas
-pub mod DueLemmas
+pub mod AskedLemmas
 pub mod Traces
 pub mod Seen
 pub mod Firsts

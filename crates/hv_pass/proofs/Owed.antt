@@ -1,119 +1,187 @@
--- The refusals that are due, and the first that is found, step by step.
-use Rattle.std.proofs.Common.{◌≡◌, ◌⊎◌, inl, inr, ℕ, zero, suc, ◌<◌, ◌≤◌, Bool, true, false, if◌then◌else◌, List, [], ◌∷◌, length, Option, Some, None, refl, sym, ◌∙◌, ap, subst, arith}
+-- What is asked, and the first that is found, step by step.
+use Rattle.std.proofs.Common.{◌≡◌, ◌⊎◌, inl, inr, ℕ, zero, suc, ◌+◌, nat_eq, Bool, true, false, not, ◌&&◌, if◌then◌else◌, List, [], ◌∷◌, ◌++◌, slice_get, Option, Some, None, refl, sym, ◌∙◌, ap, subst, arith}
+use Rattle.std.proofs.lemmas.Bool.Decides.{nat_tests}
 use Rattle.hv_tree.specs.declared.refusal.Refusal.{Refusal}
-use Rattle.hv_rules.specs.Earlier.{IsFirst}
-use Rattle.hv_pass.specs.declared.cell.Cell.{Cell}
-use Rattle.hv_pass.specs.declared.cell.Due.{Due}
+use Rattle.hv_rules.specs.Earlier.{NotAfter, IsFirst}
+use Rattle.hv_versions.specs.declared.cell.Cell.{Cell}
+use Rattle.hv_pass.specs.declared.asked.Asked.{Asked}
+use Rattle.hv_pass.specs.declared.asked.Entry.{Entry}
+use Rattle.hv_pass.specs.declared.asked.Asks.{Asks}
 use Rattle.hv_pass.specs.declared.act.Act.{Act}
 use Rattle.hv_pass.specs.declared.act.Act.TheVariants as act
-use Rattle.hv_pass.specs.declared.known.Known.{Known}
-use Rattle.hv_pass.specs.Lists.{over}
-use Rattle.hv_pass.specs.Cells.{may_in, earlier, when, due_more, due_if, kept_at, due_at, gathered, kept_due, both_due, all_due, none_due}
-use Rattle.hv_pass.specs.Passes.{pass_act, pass_acts}
-use Rattle.hv_pass.proofs.ListLemmas.{length_over}
+use Rattle.hv_pass.specs.Hints.{hint_at}
+use Rattle.hv_pass.specs.Cells.{may_in, is_before, earlier, when, kept_at, may_at, is_same, suffices, suffices_if, is_asked, hint_around, appended, added, asked_if, asked_in, found_in, hinted_as, passed_on}
+use Rattle.hv_pass.specs.Passes.{Facts, pass_act, pass_acts, with_cells}
 use Rattle.hv_pass.proofs.Seen.{inside, seen_after, Cause, Always, When, Meets, RaisedBy, Raised}
-use Rattle.hv_pass.proofs.Firsts.{same_first, earlier_first, when_first, one_first, none_first}
-use Rattle.hv_pass.proofs.Exactness.{pick, seen_at, May, act_stepped, act_steps, may_length, may_found, may_here, never}
+use Rattle.hv_pass.proofs.Firsts.{same_first, self_not_after, not_after_trans, not_before, earlier_first, when_first, one_first}
+use Rattle.hv_pass.proofs.Exactness.{May, act_stepped, act_steps, kept_same, may_same, inside_none, inside_more, inside_last, inside_or_last, may_found, may_here, never}
 
-abbrev pub due_seen : Due → Bool → Option Refusal
-due_seen d v = if v then d.yes else d.no
+-- ---- what is asked
 
-abbrev pub asked_at : List Due → ℕ → Bool → Option Refusal
-asked_at [] i v = None
-asked_at (d ∷ ds) zero v = due_seen d v
-asked_at (d ∷ ds) (suc i) v = asked_at ds i v
+-- the refusal is asked where the cell had the value
+abbrev pub Is : Asked → ℕ → Bool → Refusal → Type 0
+Is a i v r = (a.cell ≡ i) × (a.value ≡ v) × (a.refusal ≡ r)
 
--- what is known to be refused for the cause
-abbrev pub known_of : Known → Cause → Option Refusal
-known_of k Always = k.found
-known_of k (When i v) = asked_at k.dues i v
+abbrev pub In : List Entry → ℕ → Bool → Refusal → Type 0
+In [] i v r = ⊥
+In (e ∷ asks) i v r = Is e.asked i v r ⊎ In asks i v r
 
--- there is room for what is due
-pub record Fits (n : ℕ) (k : Known) : Type 0 where
-  pub cells : length k.cells ≤ n
-  pub dues : length k.dues ≡ n
+in_before : (asks : List Entry) (a : Entry) (i : ℕ) (v : Bool) (r : Refusal) → In asks i v r → In (asks ++ a ∷ []) i v r
+in_before [] a i v r h = absurd h
+in_before (b ∷ asks) a i v r (inl h) = inl h
+in_before (b ∷ asks) a i v r (inr h) = inr (in_before asks a i v r h)
 
--- ---- a due more
+in_last : (asks : List Entry) (a : Entry) (i : ℕ) (v : Bool) (r : Refusal) → Is a.asked i v r → In (asks ++ a ∷ []) i v r
+in_last [] a i v r h = inl h
+in_last (b ∷ asks) a i v r h = inr (in_last asks a i v r h)
 
-or_nothing : (T S : Refusal → Type 0) (v : Option Refusal) → ((r : Refusal) → S r → ⊥) → IsFirst T v → IsFirst (λ r. T r ⊎ S r) v
-or_nothing T S v none h = same_first T (λ r. T r ⊎ S r) v (λ r t. inl t) (λ r p. by r p) h
+in_either : (asks : List Entry) (a : Entry) (i : ℕ) (v : Bool) (r : Refusal) → In (asks ++ a ∷ []) i v r → In asks i v r ⊎ Is a.asked i v r
+in_either [] a i v r (inl h) = inr h
+in_either [] a i v r (inr h) = absurd h
+in_either (b ∷ asks) a i v r (inl h) = inl (inl h)
+in_either (b ∷ asks) a i v r (inr h) = by (in_either asks a i v r h)
+  where
+    by : In asks i v r ⊎ Is a.asked i v r → In (b ∷ asks) i v r ⊎ Is a.asked i v r
+    by (inl g) = inl (inr g)
+    by (inr g) = inr g
+
+-- what is asked of the cell and value is not later
+abbrev pub IsOwed : List Entry → ℕ → Bool → Refusal → Type 0
+IsOwed asks i v r = (s : Refusal) × In asks i v s × NotAfter s r
+
+pub owed_in : (asks : List Entry) (i : ℕ) (v : Bool) (r : Refusal) → In asks i v r → IsOwed asks i v r
+owed_in asks i v r h = (r, h, self_not_after r)
+
+pub owed_later : (asks : List Entry) (i : ℕ) (v : Bool) (s r : Refusal) → IsOwed asks i v s → NotAfter s r → IsOwed asks i v r
+owed_later asks i v s r h n = (h.0, h.1, not_after_trans h.0 s r h.2 n)
+
+-- ---- what a hint shows
+
+same_value : (v w : Bool) → is_same v w ≡ true → v ≡ w
+same_value true true h = refl
+same_value true false h = never h
+same_value false true h = never h
+same_value false false h = refl
+
+same_cell : (m n : ℕ) → nat_eq m n ≡ true → m ≡ n
+same_cell m n h = grind (arith, nat_tests)
+
+not_true : (b : Bool) → not b ≡ true → b ≡ false
+not_true true h = never h
+not_true false h = refl
+
+three : (a b c : Bool) → ((a && b) && not c) ≡ true → (a ≡ true) × (b ≡ true) × (c ≡ false)
+three true true c h = (refl, refl, not_true c h)
+three true false c h = never h
+three false b c h = never h
+
+sufficient : (b a : Asked) → suffices b a ≡ true → Is b a.cell a.value b.refusal × NotAfter b.refusal a.refusal
+sufficient b a h =
+    let p = three (nat_eq b.cell a.cell) (is_same b.value a.value) (is_before a.refusal b.refusal) h in
+    ((same_cell b.cell a.cell p.0, same_value b.value a.value p.1, refl), not_before b.refusal a.refusal p.2)
+
+shown : (asks : List Entry) (n : ℕ) (a : Asked) → suffices_if (slice_get asks n) a ≡ true → IsOwed asks a.cell a.value a.refusal
+shown [] n a h = never h
+shown (b ∷ asks) zero a h = let p = sufficient b.asked a h in (b.asked.refusal, inl p.0, p.1)
+shown (b ∷ asks) (suc n) a h = let p = shown asks n a h in (p.0, inr p.1, p.2)
+
+-- ---- one more is asked
+
+append_to : (asks : List Entry) (a : Entry) (i : ℕ) (v : Bool) (r : Refusal) → IsOwed asks i v r ⊎ Is a.asked i v r → IsOwed (asks ++ a ∷ []) i v r
+append_to asks a i v r (inl h) = (h.0, in_before asks a i v h.0 h.1, h.2)
+append_to asks a i v r (inr h) = owed_in (asks ++ a ∷ []) i v r (in_last asks a i v r h)
+
+at_self : (asks : List Entry) (a : Asked) (i : ℕ) (v : Bool) (r : Refusal) → Is a i v r → IsOwed asks a.cell a.value a.refusal → IsOwed asks i v r
+at_self asks a i v r (d, e, g) h =
+    subst (λ (s : Refusal). IsOwed asks i v s) g (subst (λ (w : Bool). IsOwed asks i w a.refusal) e (subst (λ (j : ℕ). IsOwed asks j a.value a.refusal) d h))
+
+add_to : (a : Asked) (asks : Asks) (i : ℕ) (v : Bool) (r : Refusal) → IsOwed asks.list i v r ⊎ Is a i v r → IsOwed (added a asks).list i v r
+add_to a asks i v r h = by (is_asked asks a) refl h
+  where
+    by : (b : Bool) → is_asked asks a ≡ b → IsOwed asks.list i v r ⊎ Is a i v r → IsOwed (if b then asks else appended a asks).list i v r
+    by true e (inl g) = g
+    by true e (inr g) = at_self asks.list a i v r g (shown asks.list (hint_at asks.hints a.cell a.value) a e)
+    by false e g = append_to asks.list (record { asked = a; around = hint_around asks a }) i v r g
+
+add_of : (a : Asked) (asks : Asks) (i : ℕ) (v : Bool) (r : Refusal) → In (added a asks).list i v r → In asks.list i v r ⊎ Is a i v r
+add_of a asks i v r h = by (is_asked asks a) h
+  where
+    by : (b : Bool) → In (if b then asks else appended a asks).list i v r → In asks.list i v r ⊎ Is a i v r
+    by true g = inl g
+    by false g = in_either asks.list (record { asked = a; around = hint_around asks a }) i v r g
+
+if_to : (b : Bool) (a : Asked) (asks : Asks) (i : ℕ) (v : Bool) (r : Refusal) → IsOwed asks.list i v r ⊎ ((b ≡ true) × Is a i v r) → IsOwed (asked_if b a asks).list i v r
+if_to true a asks i v r (inl h) = add_to a asks i v r (inl h)
+if_to true a asks i v r (inr h) = add_to a asks i v r (inr h.1)
+if_to false a asks i v r (inl h) = h
+if_to false a asks i v r (inr h) = never h.0
+
+if_of : (b : Bool) (a : Asked) (asks : Asks) (i : ℕ) (v : Bool) (r : Refusal) → In (asked_if b a asks).list i v r → In asks.list i v r ⊎ ((b ≡ true) × Is a i v r)
+if_of true a asks i v r h = by (add_of a asks i v r h)
+  where
+    by : In asks.list i v r ⊎ Is a i v r → In asks.list i v r ⊎ ((true ≡ true) × Is a i v r)
+    by (inl g) = inl g
+    by (inr g) = inr (refl, g)
+if_of false a asks i v r h = inl h
+
+-- what is asked of a range
+abbrev OfRange : Bool → Refusal → List Cell → ℕ → ℕ → ℕ → Bool → Refusal → Type 0
+OfRange value t cs from count i v r = (inside from count i ≡ true) × May cs i None × (v ≡ value) × (r ≡ t)
+
+range_to : (value : Bool) (t : Refusal) (cs : List Cell) (from count : ℕ) (asks : Asks) (i : ℕ) (v : Bool) (r : Refusal) →
+    IsOwed asks.list i v r ⊎ OfRange value t cs from count i v r → IsOwed (asked_in value t cs from count asks).list i v r
+range_to value t cs from zero asks i v r (inl h) = h
+range_to value t cs from zero asks i v r (inr h) = never (sym (inside_none from i) ∙ h.0)
+range_to value t cs from (suc n) asks i v r (inl h) =
+    if_to (kept_at cs (from + n)) (record { cell = from + n; value = value; refusal = t }) (asked_in value t cs from n asks) i v r (inl (range_to value t cs from n asks i v r (inl h)))
+range_to value t cs from (suc n) asks i v r (inr h) = by (inside_or_last from n i h.0) (λ g. range_to value t cs from n asks i v r (inr (g, h.1, h.2, h.3)))
+  where
+    last : (i ≡ from + n) → (kept_at cs (from + n) ≡ true) × Is (record { cell = from + n; value = value; refusal = t }) i v r
+    last e = (kept_same cs (from + n) ∙ subst (λ (j : ℕ). May cs j None) e h.1, (sym e, sym h.2, sym h.3))
+
+    by : (inside from n i ≡ true) ⊎ (i ≡ from + n) → (inside from n i ≡ true → IsOwed (asked_in value t cs from n asks).list i v r) → IsOwed (asked_in value t cs from (suc n) asks).list i v r
+    by (inl g) ih = if_to (kept_at cs (from + n)) (record { cell = from + n; value = value; refusal = t }) (asked_in value t cs from n asks) i v r (inl (ih g))
+    by (inr e) ih = if_to (kept_at cs (from + n)) (record { cell = from + n; value = value; refusal = t }) (asked_in value t cs from n asks) i v r (inr (last e))
+
+range_of : (value : Bool) (t : Refusal) (cs : List Cell) (from count : ℕ) (asks : Asks) (i : ℕ) (v : Bool) (r : Refusal) →
+    In (asked_in value t cs from count asks).list i v r → In asks.list i v r ⊎ OfRange value t cs from count i v r
+range_of value t cs from zero asks i v r h = inl h
+range_of value t cs from (suc n) asks i v r h =
+    by (if_of (kept_at cs (from + n)) (record { cell = from + n; value = value; refusal = t }) (asked_in value t cs from n asks) i v r h) (λ g. range_of value t cs from n asks i v r g)
+  where
+    grown : In asks.list i v r ⊎ OfRange value t cs from n i v r → In asks.list i v r ⊎ OfRange value t cs from (suc n) i v r
+    grown (inl g) = inl g
+    grown (inr g) = inr (inside_more from n i g.0, g.1, g.2, g.3)
+
+    by : In (asked_in value t cs from n asks).list i v r ⊎ ((kept_at cs (from + n) ≡ true) × Is (record { cell = from + n; value = value; refusal = t }) i v r) →
+        (In (asked_in value t cs from n asks).list i v r → In asks.list i v r ⊎ OfRange value t cs from n i v r) → In asks.list i v r ⊎ OfRange value t cs from (suc n) i v r
+    by (inl g) ih = grown (ih g)
+    by (inr g) ih =
+        inr (inside_last from n i (sym g.1.0), subst (λ (j : ℕ). May cs j None) g.1.0 (sym (kept_same cs (from + n)) ∙ g.0), sym g.1.1, sym g.1.2)
+
+-- ---- what is known of a cause
+
+-- these are what is refused for the cause: the first is found, or what is asked is among them and
+-- none is before it
+abbrev pub Knows : Facts → Cause → (Refusal → Type 0) → Type 0
+Knows k Always T = IsFirst T k.found
+Knows k (When i v) T = (r : Refusal) → (T r → IsOwed k.asked.list i v r) × (In k.asked.list i v r → T r)
+
+pub knows_same : (k : Facts) (c : Cause) (T S : Refusal → Type 0) → ((r : Refusal) → T r → S r) → ((r : Refusal) → S r → T r) → Knows k c T → Knows k c S
+knows_same k Always T S to back h = same_first T S k.found to back h
+knows_same k (When i v) T S to back h = λ r. (λ s. (h r).0 (back r s), λ p. to r ((h r).1 p))
+
+pub knows_no_more : (k : Facts) (c : Cause) (T S : Refusal → Type 0) → ((r : Refusal) → S r → ⊥) → Knows k c T → Knows k c (λ r. T r ⊎ S r)
+knows_no_more k c T S none h = knows_same k c T (λ r. T r ⊎ S r) (λ r t. inl t) (λ r p. by r p) h
   where
     by : (r : Refusal) → T r ⊎ S r → T r
     by r (inl t) = t
     by r (inr s) = absurd (none r s)
 
-abbrev IsDue : Bool → Bool → Bool → Refusal → Refusal → Type 0
-IsDue b v value t r = (b ≡ true) × (v ≡ value) × (r ≡ t)
-
-due_one : (v value : Bool) (t : Refusal) (d : Due) (T : Refusal → Type 0) → IsFirst T (due_seen d v) → IsFirst (λ r. T r ⊎ IsDue true v value t r) (due_seen (due_more value t d) v)
-due_one true true t d T h = same_first _ _ _ (λ r p. to r p) (λ r p. back r p) (earlier_first T (λ r. r ≡ t) d.yes (Some t) h (one_first t))
-  where
-    to : (r : Refusal) → T r ⊎ (r ≡ t) → T r ⊎ IsDue true true true t r
-    to r (inl p) = inl p
-    to r (inr e) = inr (refl, refl, e)
-
-    back : (r : Refusal) → T r ⊎ IsDue true true true t r → T r ⊎ (r ≡ t)
-    back r (inl p) = inl p
-    back r (inr p) = inr p.2
-due_one false false t d T h = same_first _ _ _ (λ r p. to r p) (λ r p. back r p) (earlier_first T (λ r. r ≡ t) d.no (Some t) h (one_first t))
-  where
-    to : (r : Refusal) → T r ⊎ (r ≡ t) → T r ⊎ IsDue true false false t r
-    to r (inl p) = inl p
-    to r (inr e) = inr (refl, refl, e)
-
-    back : (r : Refusal) → T r ⊎ IsDue true false false t r → T r ⊎ (r ≡ t)
-    back r (inl p) = inl p
-    back r (inr p) = inr p.2
-due_one true false t d T h = same_first _ _ _ (λ r p. to r p) (λ r p. back r p) (earlier_first T (λ r. ⊥) d.yes None h none_first)
-  where
-    to : (r : Refusal) → T r ⊎ ⊥ → T r ⊎ IsDue true true false t r
-    to r (inl p) = inl p
-    to r (inr e) = absurd e
-
-    back : (r : Refusal) → T r ⊎ IsDue true true false t r → T r ⊎ ⊥
-    back r (inl p) = inl p
-    back r (inr p) = never (sym p.1)
-due_one false true t d T h = same_first _ _ _ (λ r p. to r p) (λ r p. back r p) (earlier_first T (λ r. ⊥) d.no None h none_first)
-  where
-    to : (r : Refusal) → T r ⊎ ⊥ → T r ⊎ IsDue true false true t r
-    to r (inl p) = inl p
-    to r (inr e) = absurd e
-
-    back : (r : Refusal) → T r ⊎ IsDue true false true t r → T r ⊎ ⊥
-    back r (inl p) = inl p
-    back r (inr p) = never p.1
-
-due_one_if : (b v value : Bool) (t : Refusal) (d : Due) (T : Refusal → Type 0) → IsFirst T (due_seen d v) → IsFirst (λ r. T r ⊎ IsDue b v value t r) (due_seen (due_if b value t d) v)
-due_one_if true v value t d T h = due_one v value t d T h
-due_one_if false v value t d T h = or_nothing T (IsDue false v value t) (due_seen d v) (λ r p. never p.0) h
-
--- one more is due for each of the cells of which this holds
-abbrev DueThere : (ℕ → Bool) → ℕ → ℕ → ℕ → Bool → Bool → Refusal → Refusal → Type 0
-DueThere K from count j v value t r = (inside from count j ≡ true) × IsDue (K j) v value t r
-
-due_over : (K : ℕ → Bool) (from count : ℕ) (ds : List Due) (j : ℕ) (v value : Bool) (t : Refusal) (T : Refusal → Type 0) → (K j ≡ true → j < length ds) → IsFirst T (asked_at ds j v) →
-    IsFirst (λ r. T r ⊎ DueThere K from count j v value t r) (asked_at (over (λ k. due_if (K k) value t) from count ds) j v)
-due_over K from count [] j v value t T g h = or_nothing T (DueThere K from count j v value t) None (λ r p. absurd (omega (arith, g p.1.0))) h
-due_over K (suc from) count (d ∷ ds) zero v value t T g h = or_nothing T (DueThere K (suc from) count zero v value t) (due_seen d v) (λ r p. never p.0) h
-due_over K (suc from) count (d ∷ ds) (suc j) v value t T g h = due_over (λ k. K (suc k)) from count ds j v value t T (λ e. omega (arith, g e)) h
-due_over K zero zero (d ∷ ds) zero v value t T g h = or_nothing T (DueThere K zero zero zero v value t) (due_seen d v) (λ r p. never p.0) h
-due_over K zero zero (d ∷ ds) (suc j) v value t T g h = or_nothing T (DueThere K zero zero (suc j) v value t) (asked_at ds j v) (λ r p. never p.0) h
-due_over K zero (suc count) (d ∷ ds) zero v value t T g h =
-    same_first _ _ _ (λ r p. to r p) (λ r p. back r p) (due_one_if (K zero) v value t d T h)
-  where
-    to : (r : Refusal) → T r ⊎ IsDue (K zero) v value t r → T r ⊎ DueThere K zero (suc count) zero v value t r
-    to r (inl p) = inl p
-    to r (inr p) = inr (refl, p)
-
-    back : (r : Refusal) → T r ⊎ DueThere K zero (suc count) zero v value t r → T r ⊎ IsDue (K zero) v value t r
-    back r (inl p) = inl p
-    back r (inr p) = inr p.1
-due_over K zero (suc count) (d ∷ ds) (suc j) v value t T g h = due_over (λ k. K (suc k)) zero count ds j v value t T (λ e. omega (arith, g e)) h
-
-kept_same : (cs : List Cell) (j : ℕ) → kept_at cs j ≡ seen_at cs j None
-kept_same [] j = refl
-kept_same (c ∷ cs) zero = refl
-kept_same (c ∷ cs) (suc j) = kept_same cs j
+-- the cells don't matter
+pub knows_with : (cs : List Cell) (k : Facts) (c : Cause) (T : Refusal → Type 0) → Knows k c T → Knows (with_cells cs k) c T
+knows_with cs k Always T h = h
+knows_with cs k (When i v) T h = h
 
 -- ---- one act, and the acts of an event
 
@@ -139,38 +207,29 @@ seen_none : (i : ℕ) (q : Option Bool) (value : Bool) (j : ℕ) (v : Bool) → 
 seen_none i (Some w) value j v h = absurd h
 seen_none i None value j v h = (refl, h.0, h.1)
 
-act_first : (n : ℕ) (a : Act) (k : Known) (c : Cause) (T : Refusal → Type 0) → Fits n k → IsFirst T (known_of k c) → IsFirst (λ r. T r ⊎ Here k.cells a c r) (known_of (pass_act a k) c)
-act_first n (act.Set range value) k Always T f h = or_nothing T (Here k.cells (act.Set range value) Always) k.found (λ r p. p.3) h
-act_first n (act.Set range value) k (When j v) T f h = or_nothing T (Here k.cells (act.Set range value) (When j v)) (asked_at k.dues j v) (λ r p. p.3) h
-act_first n (act.Refuse range value t) k Always T f h =
+act_knows : (a : Act) (k : Facts) (c : Cause) (T : Refusal → Type 0) → Knows k c T → Knows (pass_act a k) c (λ r. T r ⊎ Here k.cells a c r)
+act_knows (act.Set range value) k Always T h = knows_no_more k Always T (Here k.cells (act.Set range value) Always) (λ r p. p.3) h
+act_knows (act.Set range value) k (When i v) T h = knows_no_more k (When i v) T (Here k.cells (act.Set range value) (When i v)) (λ r p. p.3) h
+act_knows (act.Refuse range value t) k Always T h =
     earlier_first T (Here k.cells (act.Refuse range value t) Always) k.found _ h (refuse_now range.from range.count value t k.cells (may_in value range.from range.count k.cells) refl)
-act_first n (act.Refuse range value t) k (When j v) T f h =
-    same_first _ _ _ (λ r p. to r p) (λ r p. back r p)
-    (due_over (kept_at k.cells) range.from range.count k.dues j v value t T (λ e. omega (arith, may_length k.cells j None (sym (kept_same k.cells j) ∙ e), f.cells, f.dues)) h)
+act_knows (act.Refuse range value t) k (When i v) T h = λ r. (λ p. to r p, λ p. back r (range_of value t k.cells range.from range.count k.asked i v r p))
   where
-    to : (r : Refusal) → T r ⊎ DueThere (kept_at k.cells) range.from range.count j v value t r → T r ⊎ Here k.cells (act.Refuse range value t) (When j v) r
-    to r (inl p) = inl p
-    to r (inr p) = inr (j, None, sym (kept_same k.cells j) ∙ p.1.0, (p.0, (refl, p.1.1), p.1.2))
-
-    back : (r : Refusal) → T r ⊎ Here k.cells (act.Refuse range value t) (When j v) r → T r ⊎ DueThere (kept_at k.cells) range.from range.count j v value t r
-    back r (inl p) = inl p
-    back r (inr p) =
-        let s = seen_none p.0 p.1 value j v p.3.1 in
+    to : (r : Refusal) → T r ⊎ Here k.cells (act.Refuse range value t) (When i v) r → IsOwed (asked_in value t k.cells range.from range.count k.asked).list i v r
+    to r (inl p) = range_to value t k.cells range.from range.count k.asked i v r (inl ((h r).0 p))
+    to r (inr p) =
+        let s = seen_none p.0 p.1 value i v p.3.1 in
         let m = subst (λ (u : Option Bool). May k.cells p.0 u) s.0 p.2 in
-        inr (subst (λ (w : ℕ). inside range.from range.count w ≡ true) (sym s.1) p.3.0, (kept_same k.cells j ∙ subst (λ (w : ℕ). May k.cells w None) (sym s.1) m, s.2, p.3.2))
+        range_to value t k.cells range.from range.count k.asked i v r
+        (inr (subst (λ (w : ℕ). inside range.from range.count w ≡ true) (sym s.1) p.3.0, subst (λ (w : ℕ). May k.cells w None) (sym s.1) m, s.2, p.3.2))
 
-act_fits : (n : ℕ) (a : Act) (k : Known) → Fits n k → Fits n (pass_act a k)
-act_fits n (act.Set range value) k f = record { cells = subst (λ (m : ℕ). m ≤ n) (sym (length_over _ range.from range.count k.cells)) f.cells; dues = f.dues }
-act_fits n (act.Refuse range value r) k f = record { cells = f.cells; dues = length_over _ range.from range.count k.dues ∙ f.dues }
+    back : (r : Refusal) → In k.asked.list i v r ⊎ OfRange value t k.cells range.from range.count i v r → T r ⊎ Here k.cells (act.Refuse range value t) (When i v) r
+    back r (inl p) = inl ((h r).1 p)
+    back r (inr p) = inr (i, None, p.1, (p.0, (refl, p.2), p.3))
 
-pub acts_fit : (n : ℕ) (acts : List Act) (k : Known) → Fits n k → Fits n (pass_acts acts k)
-acts_fit n [] k f = f
-acts_fit n (a ∷ acts) k f = acts_fit n acts (pass_act a k) (act_fits n a k f)
-
-pub acts_first : (n : ℕ) (acts : List Act) (k : Known) (c : Cause) (T : Refusal → Type 0) → Fits n k → IsFirst T (known_of k c) → IsFirst (λ r. T r ⊎ HereIn k.cells acts c r) (known_of (pass_acts acts k) c)
-acts_first n [] k c T f h = or_nothing T (HereIn k.cells [] c) (known_of k c) (λ r p. p.3) h
-acts_first n (a ∷ acts) k c T f h =
-    same_first _ _ _ (λ r p. to r p) (λ r p. back r p) (acts_first n acts (pass_act a k) c (λ r. T r ⊎ Here k.cells a c r) (act_fits n a k f) (act_first n a k c T f h))
+pub acts_know : (acts : List Act) (k : Facts) (c : Cause) (T : Refusal → Type 0) → Knows k c T → Knows (pass_acts acts k) c (λ r. T r ⊎ HereIn k.cells acts c r)
+acts_know [] k c T h = knows_no_more k c T (HereIn k.cells [] c) (λ r p. p.3) h
+acts_know (a ∷ acts) k c T h =
+    knows_same (pass_acts (a ∷ acts) k) c _ _ (λ r p. to r p) (λ r p. back r p) (acts_know acts (pass_act a k) c (λ r. T r ⊎ Here k.cells a c r) (act_knows a k c T h))
   where
     to : (r : Refusal) → (T r ⊎ Here k.cells a c r) ⊎ HereIn (pass_act a k).cells acts c r → T r ⊎ HereIn k.cells (a ∷ acts) c r
     to r (inl (inl p)) = inl p
@@ -189,61 +248,56 @@ acts_first n (a ∷ acts) k c T f h =
 
 -- ---- behind a loop
 
-abbrev DueNow : Cell → (Bool → Refusal → Type 0) → Refusal → Type 0
-DueNow c A r = (v : Bool) × (pick c.kept c.no c.yes (Some v) ≡ true) × A v r
-
-due_now : (c : Cell) (d : Due) (A : Bool → Refusal → Type 0) → ((v : Bool) → IsFirst (A v) (due_seen d v)) → IsFirst (DueNow c A) (due_at c d)
-due_now c d A h =
-    same_first _ _ _ (λ r p. to r p) (λ r p. back r p.0 p.1 p.2)
-    (earlier_first _ _ _ _ (when_first c.no (A false) d.no (h false)) (when_first c.yes (A true) d.yes (h true)))
-  where
-    to : (r : Refusal) → ((c.no ≡ true) × A false r) ⊎ ((c.yes ≡ true) × A true r) → DueNow c A r
-    to r (inl p) = (false, p.0, p.1)
-    to r (inr p) = (true, p.0, p.1)
-
-    back : (r : Refusal) (v : Bool) → pick c.kept c.no c.yes (Some v) ≡ true → A v r → ((c.no ≡ true) × A false r) ⊎ ((c.yes ≡ true) × A true r)
-    back r true m p = inr (m, p)
-    back r false m p = inl (m, p)
-
--- what was due where a turn began is refused where the cell may be so
+-- what was asked where a turn began is refused where the cell may be so
 abbrev pub Comes_due : List Cell → (ℕ → Bool → Refusal → Type 0) → Refusal → Type 0
 Comes_due cs A r = (i : ℕ) × (v : Bool) × May cs i (Some v) × A i v r
 
-pub gather_first : (cs : List Cell) (ds : List Due) (w : Option Refusal) (T : Refusal → Type 0) (A : ℕ → Bool → Refusal → Type 0) → IsFirst T w → ((i : ℕ) (v : Bool) → IsFirst (A i v) (asked_at ds i v)) →
-    IsFirst (λ r. T r ⊎ Comes_due cs A r) (gathered cs ds w)
-gather_first [] ds w T A h g = or_nothing T (Comes_due [] A) w (λ r p. never p.2) h
-gather_first (c ∷ cs) [] w T A h g = or_nothing T (Comes_due (c ∷ cs) A) w (λ r p. g p.0 p.1 r p.3) h
-gather_first (c ∷ cs) (d ∷ ds) w T A h g =
-    same_first _ _ _ (λ r p. to r p) (λ r p. back r p)
-    (gather_first cs ds (earlier w (due_at c d)) (λ r. T r ⊎ DueNow c (A zero) r) (λ i. A (suc i)) (earlier_first T (DueNow c (A zero)) w (due_at c d) h (due_now c d (A zero) (g zero))) (λ i. g (suc i)))
+pub find_first : (cs : List Cell) (asks : List Entry) (w : Option Refusal) (T : Refusal → Type 0) → IsFirst T w → IsFirst (λ r. T r ⊎ Comes_due cs (In asks) r) (found_in cs asks w)
+find_first cs [] w T h = same_first T _ w (λ r t. inl t) (λ r p. by r p) h
   where
-    to : (r : Refusal) → (T r ⊎ DueNow c (A zero) r) ⊎ Comes_due cs (λ i. A (suc i)) r → T r ⊎ Comes_due (c ∷ cs) A r
-    to r (inl (inl p)) = inl p
-    to r (inl (inr p)) = inr (zero, p.0, p.1, p.2)
-    to r (inr p) = inr (suc p.0, p.1, p.2, p.3)
+    by : (r : Refusal) → T r ⊎ Comes_due cs (In []) r → T r
+    by r (inl t) = t
+    by r (inr p) = absurd p.3
+find_first cs (a ∷ asks) w T h =
+    same_first _ _ _ (λ r p. to r p) (λ r p. back r p)
+    (find_first cs asks (earlier w (when (may_at cs a.asked.cell a.asked.value) (Some a.asked.refusal))) (λ r. T r ⊎ ((may_at cs a.asked.cell a.asked.value ≡ true) × (r ≡ a.asked.refusal)))
+    (earlier_first T _ w _ h (when_first (may_at cs a.asked.cell a.asked.value) (λ r. r ≡ a.asked.refusal) (Some a.asked.refusal) (one_first a.asked.refusal))))
+  where
+    to : (r : Refusal) → (T r ⊎ ((may_at cs a.asked.cell a.asked.value ≡ true) × (r ≡ a.asked.refusal))) ⊎ Comes_due cs (In asks) r → T r ⊎ Comes_due cs (In (a ∷ asks)) r
+    to r (inl (inl t)) = inl t
+    to r (inl (inr p)) = inr (a.asked.cell, a.asked.value, sym (may_same cs a.asked.cell a.asked.value) ∙ p.0, inl (refl, refl, sym p.1))
+    to r (inr p) = inr (p.0, p.1, p.2, inr p.3)
 
-    split : (r : Refusal) (i : ℕ) (v : Bool) → May (c ∷ cs) i (Some v) → A i v r → (T r ⊎ DueNow c (A zero) r) ⊎ Comes_due cs (λ j. A (suc j)) r
-    split r zero v m p = inl (inr (v, m, p))
-    split r (suc i) v m p = inr (i, v, m, p)
+    split : (r : Refusal) (i : ℕ) (v : Bool) → May cs i (Some v) → In (a ∷ asks) i v r → (T r ⊎ ((may_at cs a.asked.cell a.asked.value ≡ true) × (r ≡ a.asked.refusal))) ⊎ Comes_due cs (In asks) r
+    split r i v m (inl p) =
+        inl (inr (may_same cs a.asked.cell a.asked.value ∙ subst (λ (w : Bool). May cs a.asked.cell (Some w)) (sym p.1) (subst (λ (j : ℕ). May cs j (Some v)) (sym p.0) m), sym p.2))
+    split r i v m (inr p) = inr (i, v, m, p)
 
-    back : (r : Refusal) → T r ⊎ Comes_due (c ∷ cs) A r → (T r ⊎ DueNow c (A zero) r) ⊎ Comes_due cs (λ i. A (suc i)) r
-    back r (inl p) = inl (inl p)
+    back : (r : Refusal) → T r ⊎ Comes_due cs (In (a ∷ asks)) r → (T r ⊎ ((may_at cs a.asked.cell a.asked.value ≡ true) × (r ≡ a.asked.refusal))) ⊎ Comes_due cs (In asks) r
+    back r (inl t) = inl (inl t)
     back r (inr p) = split r p.0 p.1 p.2 p.3
 
-both_first : (d e : Due) (c : Cell) (v : Bool) (T A : Refusal → Type 0) → IsFirst T (due_seen d v) → IsFirst A (due_seen e v) → IsFirst (λ r. T r ⊎ ((c.kept ≡ true) × A r)) (due_seen (both_due d (kept_due e c)) v)
-both_first d e c true T A h g = earlier_first T _ d.yes _ h (when_first c.kept A e.yes g)
-both_first d e c false T A h g = earlier_first T _ d.no _ h (when_first c.kept A e.no g)
+-- what was asked where a turn began is asked further out where the cell may be as it was there
+passed_in : (cs : List Cell) (asks : List Entry) (outer : Asks) (i : ℕ) (v : Bool) (r : Refusal) → IsOwed outer.list i v r ⊎ (May cs i None × In asks i v r) → IsOwed (passed_on cs asks outer).list i v r
+passed_in cs [] outer i v r (inl h) = h
+passed_in cs [] outer i v r (inr h) = absurd h.1
+passed_in cs (a ∷ asks) outer i v r (inl h) = passed_in cs asks (asked_if (kept_at cs a.asked.cell) a.asked (hinted_as a outer)) i v r (inl (if_to (kept_at cs a.asked.cell) a.asked (hinted_as a outer) i v r (inl h)))
+passed_in cs (a ∷ asks) outer i v r (inr (m, inl p)) =
+    passed_in cs asks (asked_if (kept_at cs a.asked.cell) a.asked (hinted_as a outer)) i v r (inl (if_to (kept_at cs a.asked.cell) a.asked (hinted_as a outer) i v r (inr (kept_same cs a.asked.cell ∙ subst (λ (j : ℕ). May cs j None) (sym p.0) m, p))))
+passed_in cs (a ∷ asks) outer i v r (inr (m, inr p)) = passed_in cs asks (asked_if (kept_at cs a.asked.cell) a.asked (hinted_as a outer)) i v r (inr (m, p))
 
-pub all_first : (ds : List Due) (cs : List Cell) (ts : List Due) (j : ℕ) (v : Bool) (T A : Refusal → Type 0) → length ts ≤ length cs → (seen_at cs j None ≡ true → j < length ds) →
-    IsFirst T (asked_at ds j v) → IsFirst A (asked_at ts j v) → IsFirst (λ r. T r ⊎ (May cs j None × A r)) (asked_at (all_due ds cs ts) j v)
-all_first [] cs ts j v T A l f h g = or_nothing T _ None (λ r p. absurd (omega (arith, f p.0))) h
-all_first (d ∷ ds) cs [] j v T A l f h g = or_nothing T _ _ (λ r p. g r p.1) h
-all_first (d ∷ ds) [] (t ∷ ts) j v T A l f h g = absurd (omega (arith, l))
-all_first (d ∷ ds) (c ∷ cs) (t ∷ ts) zero v T A l f h g = both_first d t c v T A h g
-all_first (d ∷ ds) (c ∷ cs) (t ∷ ts) (suc j) v T A l f h g = all_first ds cs ts j v T A (omega (arith, l)) (λ e. omega (arith, f e)) h g
+pub passed_to : (cs : List Cell) (asks : List Entry) (outer : Asks) (i : ℕ) (v : Bool) (r : Refusal) → IsOwed outer.list i v r ⊎ (May cs i None × IsOwed asks i v r) → IsOwed (passed_on cs asks outer).list i v r
+passed_to cs asks outer i v r (inl h) = passed_in cs asks outer i v r (inl h)
+passed_to cs asks outer i v r (inr (m, p)) = owed_later (passed_on cs asks outer).list i v p.0 r (passed_in cs asks outer i v p.0 (inr (m, p.1))) p.2
 
-pub none_asked : (cs : List Cell) (i : ℕ) (v : Bool) → asked_at (none_due cs) i v ≡ None
-none_asked [] i v = refl
-none_asked (c ∷ cs) zero true = refl
-none_asked (c ∷ cs) zero false = refl
-none_asked (c ∷ cs) (suc i) v = none_asked cs i v
+pub passed_of : (cs : List Cell) (asks : List Entry) (outer : Asks) (i : ℕ) (v : Bool) (r : Refusal) → In (passed_on cs asks outer).list i v r → In outer.list i v r ⊎ (May cs i None × In asks i v r)
+passed_of cs [] outer i v r h = inl h
+passed_of cs (a ∷ asks) outer i v r h = by (passed_of cs asks (asked_if (kept_at cs a.asked.cell) a.asked (hinted_as a outer)) i v r h)
+  where
+    one : In outer.list i v r ⊎ ((kept_at cs a.asked.cell ≡ true) × Is a.asked i v r) → In outer.list i v r ⊎ (May cs i None × In (a ∷ asks) i v r)
+    one (inl p) = inl p
+    one (inr p) = inr (subst (λ (j : ℕ). May cs j None) p.1.0 (sym (kept_same cs a.asked.cell) ∙ p.0), inl p.1)
+
+    by : In (asked_if (kept_at cs a.asked.cell) a.asked (hinted_as a outer)).list i v r ⊎ (May cs i None × In asks i v r) → In outer.list i v r ⊎ (May cs i None × In (a ∷ asks) i v r)
+    by (inl p) = one (if_of (kept_at cs a.asked.cell) a.asked (hinted_as a outer) i v r p)
+    by (inr p) = inr (p.0, inr p.1)

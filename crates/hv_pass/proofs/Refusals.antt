@@ -1,10 +1,10 @@
 -- What a plan finds is the first of all that its flow refuses.
-use Rattle.std.proofs.Common.{◌≡◌, ◌⊎◌, inl, inr, ℕ, zero, suc, ◌+◌, ◌<◌, ◌≤◌, max, nat_le, nat_lt, Bool, true, false, ◌&&◌, if◌then◌else◌, List, [], ◌∷◌, ◌++◌, replicate, length, Option, Some, None, refl, sym, ◌∙◌, ap, subst, arith}
+use Rattle.std.proofs.Common.{◌≡◌, ◌⊎◌, inl, inr, ℕ, zero, suc, ◌+◌, ◌<◌, ◌≤◌, max, nat_le, nat_lt, Bool, true, false, ◌&&◌, if◌then◌else◌, List, [], ◌∷◌, ◌++◌, replicate, Option, Some, None, refl, sym, ◌∙◌, ap, subst, arith}
 use Rattle.std.proofs.lemmas.Bool.Decides.{nat_tests}
 use Rattle.hv_tree.specs.declared.refusal.Refusal.{Refusal}
 use Rattle.hv_rules.specs.Flow.{Flow, Skip, Do, Stop, Then, Either, Loop}
 use Rattle.hv_rules.specs.Earlier.{IsFirst}
-use Rattle.hv_pass.specs.declared.cell.Cell.{Cell}
+use Rattle.hv_versions.specs.declared.cell.Cell.{Cell}
 use Rattle.hv_pass.specs.declared.act.Act.{Act}
 use Rattle.hv_pass.specs.declared.act.Act.TheVariants as act
 use Rattle.hv_pass.specs.declared.plan.PassOp.{PassOp}
@@ -12,14 +12,12 @@ use Rattle.hv_pass.specs.declared.plan.PassOp.TheVariants as op
 use Rattle.hv_pass.specs.declared.known.Known.{Known}
 use Rattle.hv_pass.specs.Plans.{plan_of}
 use Rattle.hv_pass.specs.Refused.{Values, start, after_act, after_acts, acts_in, Refuses, IsRefused}
-use Rattle.hv_pass.specs.Cells.{nothing_due}
-use Rattle.hv_pass.specs.Passes.{passed, read_all, act_end, acts_end, op_end, plan_end, starting}
+use Rattle.hv_pass.specs.Passes.{with_saved, passed, read_all, act_end, acts_end, op_end, plan_end, starting}
 use Rattle.hv_pass.proofs.Traces.{Hits, hit_traced, trace_hit}
 use Rattle.hv_pass.proofs.Seen.{inside, seen_after, event_after, run, Always, RaisedBy, Raised}
 use Rattle.hv_pass.proofs.Firsts.{same_first}
 use Rattle.hv_pass.proofs.Exactness.{May, never}
-use Rattle.hv_pass.proofs.Owed.{Fits}
-use Rattle.hv_pass.proofs.Collects.{Raises, collects, length_alike}
+use Rattle.hv_pass.proofs.Collects.{Raises, collects}
 use Rattle.hv_pass.proofs.Reading.{read_plan}
 
 -- ---- ranges
@@ -159,9 +157,6 @@ start_to zero i h = absurd (omega (arith, h))
 start_to (suc n) zero h = refl
 start_to (suc n) (suc i) h = start_to n i (omega (arith, h))
 
-starting_fits : (n : ℕ) → Fits n (starting n)
-starting_fits n = record { cells = omega (arith, length_alike n a_no); dues = length_alike (length (replicate n a_no)) nothing_due ∙ length_alike n a_no }
-
 -- ---- both together
 
 refused_by : (f : Flow (List Act)) (n : ℕ) (r : Refusal) → Raises f (starting n).cells Always r → IsRefused f r
@@ -193,13 +188,13 @@ raises_by f n r l v =
     }
 
 first_of : (f : Flow (List Act)) (n : ℕ) → plan_end 0 (plan_of f) ≤ n → IsFirst (IsRefused f) (passed f (starting n)).found
-first_of f n l = same_first _ _ _ (λ r p. to r p) (λ r p. inr (raises_by f n r l p)) (collects f n (starting n) Always (λ r. ⊥) (starting_fits n) (λ r h. h))
+first_of f n l = same_first _ _ _ (λ r p. to r p) (λ r p. inr (raises_by f n r l p)) (collects f (starting n) Always (λ r. ⊥) (λ r h. h))
   where
     to : (r : Refusal) → ⊥ ⊎ Raises f (starting n).cells Always r → IsRefused f r
     to r (inl p) = absurd p
     to r (inr p) = refused_by f n r p
 
-pub first_of_plan : (plan : List PassOp) (f : Flow (List Act)) → plan ≡ plan_of f → IsFirst (IsRefused f) (read_all plan [] (starting (plan_end 0 plan))).found
+pub first_of_plan : (plan : List PassOp) (f : Flow (List Act)) → plan ≡ plan_of f → IsFirst (IsRefused f) (read_all plan [] (with_saved [] (starting (plan_end 0 plan)))).found
 first_of_plan plan f e =
-    subst (λ (w : List PassOp). IsFirst (IsRefused f) (read_all w [] (starting (plan_end 0 w))).found) (sym e)
+    subst (λ (w : List PassOp). IsFirst (IsRefused f) (read_all w [] (with_saved [] (starting (plan_end 0 w)))).found) (sym e)
     (subst (λ (k : Known). IsFirst (IsRefused f) k.found) (sym (read_plan f (starting (plan_end 0 (plan_of f))))) (first_of f (plan_end 0 (plan_of f)) (omega arith)))

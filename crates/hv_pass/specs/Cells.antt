@@ -1,57 +1,36 @@
--- Cells, and the refusals that are due, as the pass computes them.
-use Rattle.std.specs.Prelude.{ℕ, zero, suc, nat_lt, nat_eq, Bool, false, not, ◌&&◌, ◌||◌, if◌then◌else◌, List, [], ◌∷◌, length, map, replicate, Option, Some, None}
+-- What is refused and asked of cells, as the pass computes it.
+use Rattle.std.specs.Prelude.{ℕ, zero, suc, ◌+◌, nat_lt, nat_eq, Bool, false, ◌&&◌, ◌||◌, not, if◌then◌else◌, List, [], ◌∷◌, ◌++◌, length, slice_get, Option, Some, None}
 use Rattle.hv_tree.specs.declared.refusal.Refusal.{Refusal}
 use Rattle.hv_rules.specs.Earlier.{number_of}
-use Rattle.hv_pass.specs.declared.cell.Cell.{Cell}
-use Rattle.hv_pass.specs.declared.cell.Due.{Due}
-use Rattle.hv_pass.specs.Lists.{over, merge}
+use Rattle.hv_versions.specs.declared.cell.Cell.{Cell}
+use Rattle.hv_versions.specs.Cells.{cell_may}
+use Rattle.hv_pass.specs.declared.asked.Asked.{Asked}
+use Rattle.hv_pass.specs.declared.asked.Entry.{Entry}
+use Rattle.hv_pass.specs.declared.asked.Asks.{Asks}
+use Rattle.hv_pass.specs.Hints.{hint_at, hint_put}
 
--- ---- one cell
+-- ---- a look at the cells
 
--- whether it may be anything, so that it is reached
-abbrev pub is_reached : Cell → Bool
-is_reached c = c.kept || (c.no || c.yes)
+abbrev pub kept_of : Option Cell → Bool
+kept_of None = false
+kept_of (Some c) = c.kept
 
-abbrev pub set_cell : Bool → Cell → Cell
-set_cell value c = record { kept = false; no = is_reached c && not value; yes = is_reached c && value }
+abbrev pub may_of : Option Cell → Bool → Bool
+may_of None value = false
+may_of (Some c) value = cell_may c value
 
-abbrev pub either_cell : Cell → Cell → Cell
-either_cell c d = record { kept = c.kept || d.kept; no = c.no || d.no; yes = c.yes || d.yes }
+-- whether it may be as it was
+abbrev pub kept_at : List Cell → ℕ → Bool
+kept_at cs i = kept_of (slice_get cs i)
 
--- as a turn begins
-abbrev pub begun_cell : Cell → Cell
-begun_cell c = record { kept = is_reached c; no = false; yes = false }
-
--- before a loop, and where its turns leave it so
-abbrev pub turned_cell : Cell → Cell → Cell
-turned_cell c turn = record { kept = c.kept; no = c.no || (is_reached c && turn.no); yes = c.yes || (is_reached c && turn.yes) }
-
-abbrev pub cell_may : Cell → Bool → Bool
-cell_may c value = if value then c.yes else c.no
-
--- ---- lists of cells
-
-abbrev pub set_cells : Bool → ℕ → ℕ → List Cell → List Cell
-set_cells value from count cs = over (λ k. set_cell value) from count cs
+-- whether it may have the value
+abbrev pub may_at : List Cell → ℕ → Bool → Bool
+may_at cs i value = may_of (slice_get cs i) value
 
 -- whether one of these cells may have the value
 abbrev pub may_in : Bool → ℕ → ℕ → List Cell → Bool
-may_in value from count [] = false
-may_in value (suc from) count (c ∷ cs) = may_in value from count cs
-may_in value zero (suc count) (c ∷ cs) = cell_may c value || may_in value zero count cs
-may_in value zero zero (c ∷ cs) = false
-
--- what is not reached has no cells
-abbrev pub joined : List Cell → List Cell → List Cell
-joined [] ds = ds
-joined (c ∷ cs) [] = c ∷ cs
-joined (c ∷ cs) (d ∷ ds) = either_cell c d ∷ joined cs ds
-
-abbrev pub begun : List Cell → List Cell
-begun cs = map begun_cell cs
-
-abbrev pub turned : List Cell → List Cell → List Cell
-turned cs turn = merge turned_cell cs turn
+may_in value from zero cs = false
+may_in value from (suc count) cs = may_in value from count cs || may_at cs (from + count) value
 
 -- ---- refusals
 
@@ -68,46 +47,63 @@ earlier (Some x) (Some y) = if is_before y x then Some y else Some x
 abbrev pub when : Bool → Option Refusal → Option Refusal
 when b r = if b then r else None
 
--- ---- refusals that are due
+-- ---- what is asked of the cells as the turn began
 
-abbrev pub nothing_due : Due
-nothing_due = record { no = None; yes = None }
+abbrev pub is_same : Bool → Bool → Bool
+is_same value other = if value then other else not other
 
--- one more is due, where the cell had the value
-abbrev pub due_more : Bool → Refusal → Due → Due
-due_more value r d = record { no = earlier d.no (when (not value) (Some r)); yes = earlier d.yes (when value (Some r)) }
+-- of the same cell and value
+abbrev pub is_beside : Asked → Asked → Bool
+is_beside a other = nat_eq a.cell other.cell && is_same a.value other.value
 
--- whether the cell of this number may be as it was
-abbrev pub kept_at : List Cell → ℕ → Bool
-kept_at [] k = false
-kept_at (c ∷ cs) zero = c.kept
-kept_at (c ∷ cs) (suc k) = kept_at cs k
+-- the other is superfluous beside this one
+abbrev pub suffices : Asked → Asked → Bool
+suffices a other = is_beside a other && not (is_before other.refusal a.refusal)
 
-abbrev pub due_if : Bool → Bool → Refusal → Due → Due
-due_if b value r d = if b then due_more value r d else d
+abbrev pub suffices_if : Option Entry → Asked → Bool
+suffices_if None other = false
+suffices_if (Some e) other = suffices e.asked other
 
--- one more is due for each of these cells that may be as it was
-abbrev pub due_in : Bool → Refusal → List Cell → ℕ → ℕ → List Due → List Due
-due_in value r cs from count ds = over (λ k. due_if (kept_at cs k) value r) from count ds
+-- the hint shows that it is superfluous
+abbrev pub is_asked : Asks → Asked → Bool
+is_asked asks a = suffices_if (slice_get asks.list (hint_at asks.hints a.cell a.value)) a
 
--- what was due as a turn began, where the cell may be so
-abbrev pub due_at : Cell → Due → Option Refusal
-due_at c d = earlier (when c.no d.no) (when c.yes d.yes)
+-- the hint as the turn began, which the first entry of the cell and value keeps
+abbrev pub around_by : Option Entry → Asked → ℕ → ℕ
+around_by None a hint = hint
+around_by (Some e) a hint = if is_beside e.asked a then e.around else hint
 
-abbrev pub gathered : List Cell → List Due → Option Refusal → Option Refusal
-gathered [] ds found = found
-gathered (c ∷ cs) [] found = found
-gathered (c ∷ cs) (d ∷ ds) found = gathered cs ds (earlier found (due_at c d))
+abbrev pub hint_around : Asks → Asked → ℕ
+hint_around asks a = around_by (slice_get asks.list (hint_at asks.hints a.cell a.value)) a (hint_at asks.hints a.cell a.value)
 
--- and what is due further out, where the cell may be as it was there
-abbrev pub kept_due : Due → Cell → Due
-kept_due d c = record { no = when c.kept d.no; yes = when c.kept d.yes }
+abbrev pub appended : Asked → Asks → Asks
+appended a asks = record {
+  list = asks.list ++ record { asked = a; around = hint_around asks a } ∷ [];
+  hints = hint_put a.cell a.value (length asks.list) asks.hints;
+}
 
-abbrev pub both_due : Due → Due → Due
-both_due d e = record { no = earlier d.no e.no; yes = earlier d.yes e.yes }
+abbrev pub added : Asked → Asks → Asks
+added a asks = if is_asked asks a then asks else appended a asks
 
-abbrev pub all_due : List Due → List Cell → List Due → List Due
-all_due ds cs turn = merge both_due ds (merge kept_due turn cs)
+abbrev pub asked_if : Bool → Asked → Asks → Asks
+asked_if b a asks = if b then added a asks else asks
 
-abbrev pub none_due : List Cell → List Due
-none_due cs = replicate (length cs) nothing_due
+-- one more is asked of each of these cells that may be as it was
+abbrev pub asked_in : Bool → Refusal → List Cell → ℕ → ℕ → Asks → Asks
+asked_in value r cs from zero asks = asks
+asked_in value r cs from (suc count) asks =
+    asked_if (kept_at cs (from + count)) (record { cell = from + count; value = value; refusal = r }) (asked_in value r cs from count asks)
+
+-- what was asked is refused where the cell may have the value
+abbrev pub found_in : List Cell → List Entry → Option Refusal → Option Refusal
+found_in cs [] found = found
+found_in cs (e ∷ es) found = found_in cs es (earlier found (when (may_at cs e.asked.cell e.asked.value) (Some e.asked.refusal)))
+
+-- the hint is as the turn began
+abbrev pub hinted_as : Entry → Asks → Asks
+hinted_as e asks = record { list = asks.list; hints = hint_put e.asked.cell e.asked.value e.around asks.hints }
+
+-- and it is asked further out where the cell may be as it was there
+abbrev pub passed_on : List Cell → List Entry → Asks → Asks
+passed_on cs [] outer = outer
+passed_on cs (e ∷ es) outer = passed_on cs es (asked_if (kept_at cs e.asked.cell) e.asked (hinted_as e outer))

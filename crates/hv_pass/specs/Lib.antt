@@ -2,6 +2,6 @@
 pub mod Plans
 pub mod Refused
 -- what the functions inside promise each other
-pub mod Lists
+pub mod Hints
 pub mod Cells
 pub mod Passes

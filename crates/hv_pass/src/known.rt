@@ -1,24 +1,24 @@
-use crate::cell::{Cell, Due};
+use crate::asked::{Asks, Entry};
 use hv_items::Items;
 use hv_tree::Refusal;
+use hv_versions::Versions;
 
 /// What the pass knows where it stands.
 #[derive(Drop)]
 pub struct Known {
-    /// Without cells where nothing reaches.
-    pub cells: Items<Cell>,
-    pub dues: Items<Due>,
+    pub versions: Versions,
+    /// What was asked in the innermost turn of a loop.
+    pub asked: Asks,
     pub found: Option<Refusal>,
 }
 
-/// An operator some of whose parts aren't passed yet.
+/// An operator some of whose parts aren't passed yet. The cells that wait for it are among the
+/// versions.
 #[derive(Drop)]
 pub enum Frame {
     Before,
-    /// With the cells before both sides.
-    OneSide(Items<Cell>),
-    /// With the cells behind the sides that are passed.
-    OtherSide(Items<Cell>),
-    /// With the cells before the loop and what is due around it.
-    Turn(Items<Cell>, Items<Due>),
+    OneSide,
+    OtherSide,
+    /// With what was asked around the loop.
+    Turn(Items<Entry>),
 }

@@ -2,11 +2,11 @@
 #![tactic(auto)]
 
 mod act;
-mod cell;
+mod asked;
 mod cells;
 mod count;
-mod dues;
 mod first;
+mod hints;
 mod known;
 mod pass;
 mod plan;

@@ -3,208 +3,160 @@ ghost use Rattle.std.specs.Prelude.{◌≡◌, ◌∷◌, [], List, IfOk, OnOk, 
 ghost use Rattle.hv_rules.specs.Flow.{Flow};
 ghost use Rattle.hv_rules.specs.Earlier.{IsFirst};
 ghost use Rattle.hv_pass.specs.declared.act.Act.{Act};
+ghost use Rattle.hv_pass.specs.declared.known.Frame.TheVariants as frame;
 ghost use Rattle.hv_pass.specs.Plans.{plan_of};
 ghost use Rattle.hv_pass.specs.Refused.{IsRefused};
-ghost use Rattle.hv_pass.specs.declared.known.Frame.TheVariants as frame;
-ghost use Rattle.hv_pass.specs.Cells.{when};
 ghost use Rattle.hv_pass.specs.Passes as spec;
 
 use crate::act::Act;
-use crate::cell::{Cell, Due};
+use crate::asked::{Asks, Entry};
 use crate::count::count_cells;
-use crate::first::earlier;
+use crate::first::{earlier, when};
 use crate::known::{Frame, Known};
 use crate::plan::PassOp;
 use crate::waiting::Waiting;
-use crate::{cells, dues};
+use crate::{asked, cells, hints};
 use hv_items::Items;
 use hv_tree::Refusal;
+use hv_versions::Versions;
 use std::alloc::{AllocError as NoMemory, Global};
+use std::mem;
 
-fn refused(may: bool, refusal: Refusal) -> Option<Refusal>
-    ensures { result ≡ when may (Some refusal) }
+fn pass_act(known: &mut Known, act: Act) -> Result<(), NoMemory>
+    ensures { OnOk result (known.new ≡ spec.changed (spec.pass_act act) known.old) }
 {
-    if may { Some(refusal) } else { None }
-}
-
-fn pass_act(known: Known, act: Act) -> Known
-    ensures { result ≡ spec.pass_act act known }
-{
-    let Known { cells, dues, found } = known;
     match act {
-        Act::Set(range, value) => Known {
-            cells: cells::set(cells, range, value),
-            dues,
-            found,
-        },
+        Act::Set(range, value) => known.versions.set(range.from, range.count, value),
         Act::Refuse(range, value, refusal) => {
-            let may = cells::may(cells.as_slice(), range, value);
-            let dues = dues::ask(dues, cells.as_slice(), range, value, refusal);
-            Known {
-                cells,
-                dues,
-                found: earlier(found, refused(may, refusal)),
-            }
+            asked::ask(&mut known.asked, &known.versions, range, value, refusal)?;
+            let may = cells::may(&known.versions, range, value);
+            known.found = earlier(known.found, when(may, Some(refusal)));
+            Ok(())
         }
     }
 }
 
-fn pass_acts(known: Known, acts: &[Act]) -> Known
-    ensures { result ≡ spec.pass_acts acts.now known }
+fn pass_acts(known: &mut Known, acts: &[Act]) -> Result<(), NoMemory>
+    ensures { OnOk result (known.new ≡ spec.changed (spec.pass_acts acts.now) known.old) }
 {
-    let mut known = known;
     for act in acts {
-        known = pass_act(known, *act);
+        pass_act(known, *act)?;
     }
-    known
+    Ok(())
 }
 
-fn stop(alloc: Global, known: Known) -> Known
-    ensures { result ≡ spec.stopped known }
+// The other side begins where the one did. Sides that end together are one.
+fn change_sides(known: &mut Known, waiting: &mut Waiting) -> Result<(), NoMemory>
+    ensures known { OnOk result (known.new ≡ spec.with_levels (spec.sides_changed_before waiting.old known.old.versions) known.old) }
+    ensures waiting { OnOk result (waiting.new ≡ spec.waiting_behind waiting.old) }
 {
-    let Known { dues, found, .. } = known;
-    Known {
-        cells: Items::new(alloc),
-        dues,
-        found,
-    }
-}
-
-// The other side begins where the one did.
-fn change_sides(known: Known, before: Items<Cell>, waiting: &mut Waiting) -> Result<Known, NoMemory>
-    ensures known { IfOk result (λ k. k ≡ spec.with_cells before known) }
-    ensures waiting { OnOk result (waiting.new ≡ spec.waiting_behind known.cells waiting.old) }
-{
-    let Known { cells, dues, found } = known;
     match waiting.pop() {
-        Some(Frame::OtherSide(sides)) => {
-            let sides = cells::join(sides, cells.as_slice())?;
-            waiting.push(Frame::OtherSide(sides))?;
-        }
+        Some(Frame::OtherSide) => known.versions.change_sides_within()?,
         Some(frame) => {
             waiting.push(frame)?;
-            waiting.push(Frame::OtherSide(cells))?;
+            known.versions.change_sides()?;
         }
-        None => waiting.push(Frame::OtherSide(cells))?,
+        None => known.versions.change_sides()?,
     }
-    Ok(Known {
-        cells: before,
-        dues,
-        found,
-    })
+    waiting.push(Frame::OtherSide)
 }
 
-fn join(sides: Items<Cell>, known: Known) -> Result<Known, NoMemory>
-    ensures { IfOk result (λ k. k ≡ spec.joined_with sides known) }
+fn leave(known: &mut Known, outer: Items<Entry>) -> Result<(), NoMemory>
+    ensures { OnOk result (known.new ≡ spec.left_known outer known.old) }
 {
-    let Known { cells, dues, found } = known;
-    Ok(Known {
-        cells: cells::join(sides, cells.as_slice())?,
-        dues,
-        found,
-    })
-}
-
-fn leave(before: Items<Cell>, outer: Items<Due>, turn: Known) -> Known
-    ensures { result ≡ spec.left (record { cells = before; dues = outer; found = None }) turn }
-{
-    let Known { cells, dues, found } = turn;
-    let behind = cells::turn(before, cells.as_slice());
-    let found = dues::gather(behind.as_slice(), dues.as_slice(), found);
-    let dues = dues::pass_on(outer, behind.as_slice(), dues);
-    Known {
-        cells: behind,
-        dues,
-        found,
-    }
+    known.versions.leave()?;
+    let turn = mem::replace(&mut known.asked.list, outer);
+    known.found = asked::find(&known.versions, turn.as_slice(), known.found);
+    asked::pass_on(&mut known.asked, &known.versions, turn.as_slice())
 }
 
 // Completes each operator that waits for this part alone.
-fn give(known: Known, waiting: &mut Waiting) -> Result<Known, NoMemory>
-    ensures known { IfOk result (λ k. k ≡ (spec.given waiting.old known).known) }
-    ensures waiting { OnOk result (waiting.new ≡ (spec.given waiting.old known).waiting) }
+fn give(known: &mut Known, waiting: &mut Waiting) -> Result<(), NoMemory>
+    ensures known { OnOk result (known.new ≡ (spec.given waiting.old known.old).known) }
+    ensures waiting { OnOk result (waiting.new ≡ (spec.given waiting.old known.old).waiting) }
 {
-    let mut known = known;
     while let Some(frame) = waiting.pop() {
         match frame {
-            Frame::Before => return Ok(known),
-            Frame::OneSide(before) => return change_sides(known, before, waiting),
-            Frame::OtherSide(sides) => known = join(sides, known)?,
-            Frame::Turn(before, outer) => known = leave(before, outer, known),
+            Frame::Before => return Ok(()),
+            Frame::OneSide => return change_sides(known, waiting),
+            Frame::OtherSide => known.versions.join()?,
+            Frame::Turn(outer) => leave(known, outer)?,
         }
     }
-    Ok(known)
+    Ok(())
 }
 
-fn enter(alloc: Global, known: Known, waiting: &mut Waiting) -> Result<Known, NoMemory>
-    ensures known { IfOk result (λ k. k ≡ spec.entered known) }
-    ensures waiting { OnOk result (waiting.new ≡ frame.Turn known.cells known.dues ∷ waiting.old) }
+fn enter(alloc: Global, known: &mut Known, waiting: &mut Waiting) -> Result<(), NoMemory>
+    ensures known { OnOk result (known.new ≡ spec.entered_known known.old) }
+    ensures waiting { OnOk result (waiting.new ≡ frame.Turn known.old.asked.list ∷ waiting.old) }
 {
-    let Known { cells, dues, found } = known;
-    let begun = cells::begin(alloc, cells.as_slice())?;
-    let nothing = dues::nothing(alloc, cells.as_slice())?;
-    waiting.push(Frame::Turn(cells, dues))?;
-    Ok(Known {
-        cells: begun,
-        dues: nothing,
-        found,
-    })
+    known.versions.enter()?;
+    let outer = mem::replace(&mut known.asked.list, Items::new(alloc));
+    waiting.push(Frame::Turn(outer))
 }
 
-fn read(alloc: Global, op: &PassOp, known: Known, waiting: &mut Waiting) -> Result<Known, NoMemory>
-    ensures known { IfOk result (λ k. k ≡ (spec.read op.now waiting.old known).known) }
-    ensures waiting { OnOk result (waiting.new ≡ (spec.read op.now waiting.old known).waiting) }
+fn read(
+    alloc: Global,
+    op: &PassOp,
+    known: &mut Known,
+    waiting: &mut Waiting,
+) -> Result<(), NoMemory>
+    ensures known { OnOk result (known.new ≡ (spec.read op.now waiting.old known.old).known) }
+    ensures waiting { OnOk result (waiting.new ≡ (spec.read op.now waiting.old known.old).waiting) }
 {
     match op {
         PassOp::Skip => give(known, waiting),
-        PassOp::Do(acts) => give(pass_acts(known, acts.as_slice()), waiting),
+        PassOp::Do(acts) => {
+            pass_acts(known, acts.as_slice())?;
+            give(known, waiting)
+        }
         PassOp::Stop(acts) => {
-            let last = pass_acts(known, acts.as_slice());
-            give(stop(alloc, last), waiting)
+            pass_acts(known, acts.as_slice())?;
+            known.versions.stop();
+            give(known, waiting)
         }
-        PassOp::Then => {
-            waiting.push(Frame::Before)?;
-            Ok(known)
-        }
+        PassOp::Then => waiting.push(Frame::Before),
         PassOp::Either => {
-            let before = cells::copy(alloc, known.cells.as_slice())?;
-            waiting.push(Frame::OneSide(before))?;
-            Ok(known)
+            known.versions.split()?;
+            waiting.push(Frame::OneSide)
         }
         PassOp::Loop => enter(alloc, known, waiting),
     }
 }
 
-fn read_all(alloc: Global, plan: &[PassOp], known: Known) -> Result<Known, NoMemory>
-    ensures { IfOk result (λ k. k ≡ spec.read_all plan.now [] known) }
+fn read_all(alloc: Global, plan: &[PassOp], known: &mut Known) -> Result<(), NoMemory>
+    ensures { OnOk result (known.new ≡ spec.read_all plan.now [] known.old) }
 {
     let mut waiting = Waiting::new(alloc);
-    let mut known = known;
     for op in plan {
-        known = read(alloc, op, known, &mut waiting)?;
+        read(alloc, op, known, &mut waiting)?;
     }
-    Ok(known)
+    Ok(())
 }
 
 fn start(alloc: Global, count: usize) -> Result<Known, NoMemory>
-    ensures { IfOk result (λ k. k ≡ spec.starting count) }
+    ensures { IfOk result (λ k. k ≡ spec.with_saved [] (spec.starting count)) }
 {
-    let cells = cells::start(alloc, count)?;
-    let dues = dues::nothing(alloc, cells.as_slice())?;
     Ok(Known {
-        cells,
-        dues,
+        versions: Versions::new(alloc, count)?,
+        asked: Asks {
+            list: Items::new(alloc),
+            hints: hints::start(alloc, count)?,
+        },
         found: None,
     })
 }
 
 /// The first of all that the acts of a plan refuse, over all traces of the flow that it spells. It
-/// takes time in proportion to the words and acts, the cells in their ranges, and for each `Either`
-/// and `Loop` the number of all cells; a loop's body is passed once, however deep it stands.
+/// takes time in proportion to the words, the acts, the cells up to the last that an act names, and
+/// the cells in the acts' ranges times how deep sides and turns nest at most. An `Either` at the end
+/// of another's other side isn't deeper. Of what an open turn of a loop refuses it keeps one entry
+/// for each cell and value, and one more each time that a later act's refusal comes before those.
 #[tactic(auto, using(crate::proofs::Refusals::first_of_plan))]
 pub fn first_refusal(alloc: Global, plan: &[PassOp]) -> Result<Option<Refusal>, NoMemory>
     ensures first { IfOk result (λ first. (f : Flow (List Act)) → plan.now ≡ plan_of f → IsFirst (IsRefused f) first) }
 {
-    let known = read_all(alloc, plan, start(alloc, count_cells(plan))?)?;
+    let mut known = start(alloc, count_cells(plan))?;
+    read_all(alloc, plan, &mut known)?;
     Ok(known.found)
 }

@@ -35,10 +35,10 @@ fn acts(alloc: Global, byte: u8, start: u32) -> Result<Items<Act>, NoMemory> {
     Ok(acts)
 }
 
-// A letter a word, whose places fall from 99 on.
-fn plan(alloc: Global, text: &str) -> Result<Vec<PassOp>, NoMemory> {
+// A letter a word. Their places rise from 1 or fall from 99 on.
+fn plan(alloc: Global, text: &str, rises: bool) -> Result<Vec<PassOp>, NoMemory> {
     let mut plan = Vec::new(alloc);
-    let mut start = 99u32;
+    let mut start = if rises { 1u32 } else { 99u32 };
     for byte in text.bytes() {
         plan.push(match byte {
             b's' => PassOp::Skip,
@@ -48,7 +48,11 @@ fn plan(alloc: Global, text: &str) -> Result<Vec<PassOp>, NoMemory> {
             b'x' => PassOp::Stop(acts(alloc, b'?', start)?),
             _ => PassOp::Do(acts(alloc, byte, start)?),
         })?;
-        start = start.saturating_sub(1);
+        start = if rises {
+            start.saturating_add(1)
+        } else {
+            start.saturating_sub(1)
+        };
     }
     Ok(plan)
 }
@@ -84,15 +88,57 @@ fn the_first_refusal_of_all_traces(rt: HostRuntime) -> Result<(), Fail> {
         ("ttw+W", None),
         ("ttwsW", Some(95)),
         ("tt+sW", Some(95)),
+        ("te+e+s?", Some(93)),
+        ("te+e+e+s?", Some(91)),
+        ("te+e+e++?", None),
+        ("tese+e++?", Some(91)),
+        ("teee+++s?", Some(91)),
+        ("teee++++?", None),
+        ("t+tex-?", Some(93)),
+        ("t+ltl-?", Some(93)),
+        ("t+ltl?-", Some(94)),
+        ("t+ltl?+", None),
+        ("t+lte?s-", Some(94)),
+        ("t+lte?-+", None),
+        ("ttwl+W", Some(94)),
+        ("t+ltb-", Some(95)),
     ];
     for (text, want) in rows {
-        let words = plan(alloc, text)?;
+        let words = plan(alloc, text, false)?;
         let found = first_refusal(alloc, words.as_slice())?;
         let refusal = want.map(|start| Refusal {
             rule: Rule::I1,
             place: Place { start },
         });
         assert_eq!(rt; found, refusal, "{text}");
+    }
+    Ok(())
+}
+
+#[test]
+fn what_is_asked_again_in_a_turn_is_found_at_its_first_place(rt: HostRuntime) -> Result<(), Fail> {
+    let alloc = rt.alloc();
+    let rows = [
+        ("t+lt?t?-", 5, 93),
+        ("t+lt?lt?-", 5, 92),
+        ("t+lt?tlt?-s", 5, 91),
+        ("t+ltl?tl?-", 6, 91),
+        ("t+lltl?tl?-", 7, 90),
+        ("t+lt?ltl?t?-", 5, 89),
+        ("t+ltWt?t?-", 5, 91),
+        ("ttw+ltWtl?t?-", 7, 88),
+        ("t+lte?st?t?-", 6, 89),
+        ("t+ltetm?l?t?-", 7, 88),
+        ("t+ltet+l?st?-", 12, 88),
+    ];
+    for (text, rising, falling) in rows {
+        for (rises, start) in [(true, rising), (false, falling)] {
+            let words = plan(alloc, text, rises)?;
+            let found = first_refusal(alloc, words.as_slice())?;
+            let rule = Rule::I1;
+            let place = Place { start };
+            assert_eq!(rt; found, Some(Refusal { rule, place }), "{text}, {start}");
+        }
     }
     Ok(())
 }
