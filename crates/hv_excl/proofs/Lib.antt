@@ -1,5 +1,5 @@
--- lists
-pub mod Opened
+-- the open accesses
+pub mod Stacks
 -- what the words of a plan tell
 pub mod Telling
 pub mod Clashing

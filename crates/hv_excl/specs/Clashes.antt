@@ -1,5 +1,5 @@
 -- What an event refuses, and which accesses are open behind it, as the code computes them.
-use Rattle.std.specs.Prelude.{ℕ, ◌==◌, Bool, true, false, ◌&&◌, ◌||◌, if◌then◌else◌, List, [], ◌∷◌, Option, Some, None, map, reverse, filter}
+use Rattle.std.specs.Prelude.{ℕ, ◌==◌, Bool, true, false, ◌&&◌, ◌||◌, if◌then◌else◌, List, [], ◌∷◌, Option, Some, None}
 use Rattle.hv_tree.specs.declared.place.Place.{Place}
 use Rattle.hv_tree.specs.declared.refusal.Refusal.{Refusal}
 use Rattle.hv_tree.specs.declared.refusal.Rule.TheVariants as rule
@@ -7,24 +7,7 @@ use Rattle.hv_rules.specs.declared.path.StaticPath.{StaticPath}
 use Rattle.hv_rules.specs.declared.event.FlowEvent.{FlowEvent}
 use Rattle.hv_rules.specs.declared.event.FlowEvent.TheVariants as event
 use Rattle.hv_rules.specs.Paths.{steps_meet}
-use Rattle.hv_rules.specs.States.{Mode, Reading, Writing, Setting, Access, closed, stays, without_bindings}
-use Rattle.hv_excl.specs.declared.open.AccessMode.{AccessMode}
-use Rattle.hv_excl.specs.declared.open.AccessMode.TheVariants as mode
-use Rattle.hv_excl.specs.declared.open.OpenAccess.{OpenAccess}
-
--- ---- open accesses
-
-abbrev pub mode_by : AccessMode → Mode
-mode_by mode.Reading = Reading
-mode_by mode.Writing = Writing
-mode_by mode.Setting = Setting
-
-abbrev pub access_by : OpenAccess → Access
-access_by a = record { path = a.path.now; mode = mode_by a.mode; binding = a.binding }
-
--- the code has the newest last
-abbrev pub accesses_by : List OpenAccess → List Access
-accesses_by all = map access_by (reverse all)
+use Rattle.hv_rules.specs.States.{Mode, Reading, Writing, Setting, Access, closed, without_bindings}
 
 -- ---- what is open behind an event that belongs to this binding, or to none
 
@@ -96,9 +79,3 @@ refused_at (event.Spawn h) b at xs = None
 refused_at (event.Await h) b at xs = None
 refused_at event.Return b at xs = None
 refused_at (event.ScopeEnd n) b at xs = None
-
--- ---- the code's list
-
--- those that outlive the locals from n on
-abbrev pub kept_by : ℕ → List OpenAccess → List OpenAccess
-kept_by n all = filter (λ (a : OpenAccess). stays n a.binding) all

@@ -1,8 +1,9 @@
 // What an event refuses, where accesses are open.
 ghost use Rattle.std.specs.Prelude.{◌≡◌, map};
+ghost use Rattle.hv_excl.specs.Access.{access_by, entry_by, mode_by};
 ghost use Rattle.hv_excl.specs.Clashes as spec;
 
-use crate::open::{AccessMode, OpenAccess};
+use crate::access::{AccessMode, Entry, OpenAccess, Opened};
 use hv_rules::{FlowEvent, StaticPath, overlap};
 use hv_tree::{Place, Refusal, Rule};
 
@@ -14,7 +15,7 @@ fn may_share(a: &StaticPath, b: &StaticPath) -> bool
 }
 
 fn counts(reading: bool, mode: AccessMode) -> bool
-    ensures { result ≡ spec.counts reading (spec.mode_by mode) }
+    ensures { result ≡ spec.counts reading (mode_by mode) }
 {
     match mode {
         AccessMode::Reading => reading,
@@ -23,16 +24,16 @@ fn counts(reading: bool, mode: AccessMode) -> bool
 }
 
 fn clash(access: &OpenAccess<'_>, reading: bool, path: &StaticPath) -> bool
-    ensures { result ≡ spec.clash reading path.now (spec.access_by access.now) }
+    ensures { result ≡ spec.clash reading path.now (access_by access.now) }
 {
     counts(reading, access.mode) && may_share(path, access.path)
 }
 
-fn clash_among(opened: &[OpenAccess<'_>], reading: bool, path: &StaticPath) -> bool
-    ensures { result ≡ spec.clashes reading path.now (map spec.access_by opened.now) }
+fn clash_among(entries: &[Entry<'_>], reading: bool, path: &StaticPath) -> bool
+    ensures { result ≡ spec.clashes reading path.now (map entry_by entries.now) }
 {
-    for access in opened {
-        if clash(access, reading, path) {
+    for entry in entries {
+        if clash(&entry.access, reading, path) {
             return true;
         }
     }
@@ -40,15 +41,15 @@ fn clash_among(opened: &[OpenAccess<'_>], reading: bool, path: &StaticPath) -> b
 }
 
 // Whether the path overlaps an open access, one that only reads too if `reading` says so.
-#[tactic(auto, using(crate::proofs::Opened::clash_reversed))]
-fn clashes(opened: &[OpenAccess<'_>], reading: bool, path: &StaticPath) -> bool
-    ensures { result ≡ spec.clashes reading path.now (spec.accesses_by opened.now) }
+#[tactic(auto, using(crate::proofs::Stacks::clash_reversed))]
+fn clashes(opened: &Opened<'_>, reading: bool, path: &StaticPath) -> bool
+    ensures { result ≡ spec.clashes reading path.now opened.now }
 {
-    clash_among(opened, reading, path)
+    clash_among(opened.entries(), reading, path)
 }
 
-fn change(opened: &[OpenAccess<'_>], path: &StaticPath, place: Place) -> Option<Refusal>
-    ensures { result ≡ spec.change_refused path.now place (spec.accesses_by opened.now) }
+fn change(opened: &Opened<'_>, path: &StaticPath, place: Place) -> Option<Refusal>
+    ensures { result ≡ spec.change_refused path.now place opened.now }
 {
     if clashes(opened, true, path) {
         Some(Refusal {
@@ -60,8 +61,8 @@ fn change(opened: &[OpenAccess<'_>], path: &StaticPath, place: Place) -> Option<
     }
 }
 
-fn read(opened: &[OpenAccess<'_>], path: &StaticPath, place: Place) -> Option<Refusal>
-    ensures { result ≡ spec.read_refused path.now place (spec.accesses_by opened.now) }
+fn read(opened: &Opened<'_>, path: &StaticPath, place: Place) -> Option<Refusal>
+    ensures { result ≡ spec.read_refused path.now place opened.now }
 {
     if clashes(opened, false, path) {
         Some(Refusal {
@@ -74,12 +75,12 @@ fn read(opened: &[OpenAccess<'_>], path: &StaticPath, place: Place) -> Option<Re
 }
 
 fn init(
-    opened: &[OpenAccess<'_>],
+    opened: &Opened<'_>,
     binding: Option<u32>,
     path: &StaticPath,
     place: Place,
 ) -> Option<Refusal>
-    ensures { result ≡ spec.init_refused binding path.now place (spec.accesses_by opened.now) }
+    ensures { result ≡ spec.init_refused binding path.now place opened.now }
 {
     match binding {
         None => change(opened, path, place),
@@ -89,12 +90,12 @@ fn init(
 
 /// What an event that belongs to this binding, or to none, refuses.
 pub fn refused_at(
-    opened: &[OpenAccess<'_>],
+    opened: &Opened<'_>,
     event: &FlowEvent,
     binding: Option<u32>,
     place: Place,
 ) -> Option<Refusal>
-    ensures { result ≡ spec.refused_at event.now binding place (spec.accesses_by opened.now) }
+    ensures { result ≡ spec.refused_at event.now binding place opened.now }
 {
     match event {
         FlowEvent::Init(path) => init(opened, binding, path, place),

@@ -1,10 +1,10 @@
 // The acts of a plan, in one pass over its words.
 ghost use Rattle.std.specs.Prelude.{◌≡◌, [], None, IfOk};
-ghost use Rattle.hv_excl.specs.Clashes.{accesses_by};
 ghost use Rattle.hv_excl.specs.Judged as spec;
 
+use crate::access::Opened;
 use crate::clash::refused_at;
-use crate::open::{OpenAccess, pass_event};
+use crate::open::pass_event;
 use crate::told::{declares, told_binding};
 use hv_items::Items;
 use hv_pass::{Act, PassOp, Range};
@@ -26,11 +26,11 @@ fn acts(alloc: Global, refusal: Option<Refusal>) -> Result<Items<Act>, NoMemory>
 
 fn judge_word(
     alloc: Global,
-    opened: &[OpenAccess<'_>],
+    opened: &Opened<'_>,
     word: &FlowOp,
     binding: Option<u32>,
 ) -> Result<PassOp, NoMemory>
-    ensures { IfOk result (λ o. o ≡ spec.judged_op binding (accesses_by opened.now) word.now) }
+    ensures { IfOk result (λ o. o ≡ spec.judged_op binding opened.now word.now) }
 {
     Ok(match word {
         FlowOp::Skip => PassOp::Skip,
@@ -49,11 +49,11 @@ fn judge_word(
 /// The open accesses behind a word that belongs to this binding, or to none.
 pub fn pass_word<'p>(
     alloc: Global,
-    opened: Items<OpenAccess<'p>>,
+    opened: Opened<'p>,
     word: &'p FlowOp,
     binding: Option<u32>,
-) -> Result<Items<OpenAccess<'p>>, NoMemory>
-    ensures { IfOk result (λ now. accesses_by now ≡ spec.open_op binding word.now (accesses_by opened.entry)) }
+) -> Result<Opened<'p>, NoMemory>
+    ensures { IfOk result (λ now. now ≡ spec.open_op binding word.now opened.entry) }
 {
     match word {
         FlowOp::Do(event, _) | FlowOp::Stop(event, _) => pass_event(alloc, opened, event, binding),
@@ -67,12 +67,12 @@ pub fn judge(alloc: Global, plan: &[FlowOp]) -> Result<Items<PassOp>, NoMemory>
     ensures { IfOk result (λ acts. acts ≡ spec.judged None [] plan.now) }
 {
     let mut judged = Items::new(alloc);
-    let mut opened = Items::new(alloc);
+    let mut opened = Opened::new(alloc);
     let mut before = None;
     let mut left = plan;
     while let [word, rest @ ..] = left {
         let binding = told_binding(before, word, rest);
-        judged.push(judge_word(alloc, opened.as_slice(), word, binding)?)?;
+        judged.push(judge_word(alloc, &opened, word, binding)?)?;
         opened = pass_word(alloc, opened, word, binding)?;
         before = declares(word);
         left = rest;

@@ -1,6 +1,7 @@
 //! The first violation of the rules on accesses, over all traces of all bodies, and the accesses that are open at each word of a plan.
 #![tactic(auto)]
 
+mod access;
 mod clash;
 mod excl;
 mod judge;
@@ -9,7 +10,7 @@ mod open;
 mod tests;
 mod told;
 
+pub use access::{AccessMode, OpenAccess, Opened};
 pub use excl::excl_refusal;
 pub use judge::pass_word;
-pub use open::{AccessMode, OpenAccess};
 pub use told::{declares, told_binding};
