@@ -2,6 +2,5 @@
 pub mod Alike
 -- what the words of a plan spell
 pub mod Told
-pub mod Closings
 pub mod Asking
 pub mod Bodies

@@ -1,3 +1,2 @@
 -- what the functions inside promise each other
-pub mod Closing
 pub mod Words

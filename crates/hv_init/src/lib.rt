@@ -2,7 +2,6 @@
 #![tactic(auto)]
 
 mod asks;
-mod closing;
 mod init;
 mod path;
 mod sets;

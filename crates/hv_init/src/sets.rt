@@ -1,14 +1,13 @@
 // What an event sets in the cells.
 ghost use Rattle.std.specs.Prelude.{◌≡◌, ◌++◌, ◌∷◌, [], false, OnOk};
 ghost use Rattle.hv_rules.specs.States as states;
-ghost use Rattle.hv_excl.specs.Clashes.{accesses_by, mode_by};
+ghost use Rattle.hv_excl.specs.Access.{mode_by};
 ghost use Rattle.hv_layout.specs.Laid.{laid};
 ghost use Rattle.hv_pass.specs.declared.act.Act.TheVariants as act;
 ghost use Rattle.hv_init_law.specs.Acts as spec;
 
-use crate::closing::last_called;
 use crate::path::has_index;
-use hv_excl::{AccessMode, OpenAccess};
+use hv_excl::{AccessMode, OpenAccess, Opened};
 use hv_items::Items;
 use hv_layout::Layout;
 use hv_pass::Act;
@@ -53,11 +52,11 @@ fn close_access(
 fn close_last(
     layout: &Layout<'_>,
     acts: &mut Items<Act>,
-    opened: &[OpenAccess<'_>],
+    opened: &Opened<'_>,
 ) -> Result<(), NoMemory>
-    ensures { OnOk result (acts.new ≡ acts.old ++ spec.set_at_close (laid layout.now) (states.last_called (accesses_by opened.now))) }
+    ensures { OnOk result (acts.new ≡ acts.old ++ spec.set_at_close (laid layout.now) (states.last_called opened.now)) }
 {
-    match last_called(opened) {
+    match opened.last_called() {
         Some(access) => close_access(layout, acts, &access),
         None => Ok(()),
     }
@@ -67,10 +66,10 @@ fn close_last(
 pub(crate) fn set(
     layout: &Layout<'_>,
     acts: &mut Items<Act>,
-    opened: &[OpenAccess<'_>],
+    opened: &Opened<'_>,
     event: &FlowEvent,
 ) -> Result<(), NoMemory>
-    ensures { OnOk result (acts.new ≡ acts.old ++ spec.sets (laid layout.now) event.now (accesses_by opened.now)) }
+    ensures { OnOk result (acts.new ≡ acts.old ++ spec.sets (laid layout.now) event.now opened.now) }
 {
     match event {
         FlowEvent::Declare(local) => empty_local(layout, acts, *local),

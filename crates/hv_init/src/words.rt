@@ -1,13 +1,12 @@
 // The acts of a body's events, in one pass over the words of its plan.
 ghost use Rattle.std.specs.Prelude.{◌≡◌, [], None, IfOk};
-ghost use Rattle.hv_excl.specs.Clashes.{accesses_by};
 ghost use Rattle.hv_layout.specs.Laid.{laid};
 ghost use Rattle.hv_init.specs.Words as spec;
 
 use crate::asks::ask;
 use crate::sets::set;
 use hv_ends::{End, ends_behind};
-use hv_excl::{OpenAccess, declares, pass_word, told_binding};
+use hv_excl::{Opened, declares, pass_word, told_binding};
 use hv_items::Items;
 use hv_layout::Layout;
 use hv_pass::{Act, PassOp};
@@ -20,12 +19,12 @@ use std::alloc::{AllocError as NoMemory, Global};
 fn event_acts(
     alloc: Global,
     layout: &Layout<'_>,
-    opened: &[OpenAccess<'_>],
+    opened: &Opened<'_>,
     to_come: &[End],
     event: &FlowEvent,
     place: Place,
 ) -> Result<Items<Act>, NoMemory>
-    ensures { IfOk result (λ acts. acts ≡ spec.event_acts (laid layout.now) (accesses_by opened.now) to_come.now event.now place) }
+    ensures { IfOk result (λ acts. acts ≡ spec.event_acts (laid layout.now) opened.now to_come.now event.now place) }
 {
     let mut acts = Items::new(alloc);
     ask(layout, &mut acts, to_come, event, place)?;
@@ -36,11 +35,11 @@ fn event_acts(
 fn init_word(
     alloc: Global,
     layout: &Layout<'_>,
-    opened: &[OpenAccess<'_>],
+    opened: &Opened<'_>,
     to_come: &[End],
     word: &FlowOp,
 ) -> Result<PassOp, NoMemory>
-    ensures { IfOk result (λ o. o ≡ spec.init_word (laid layout.now) (accesses_by opened.now) to_come.now word.now) }
+    ensures { IfOk result (λ o. o ≡ spec.init_word (laid layout.now) opened.now to_come.now word.now) }
 {
     Ok(match word {
         FlowOp::Skip => PassOp::Skip,
@@ -57,7 +56,7 @@ fn init_word(
 }
 
 /// The plan of the acts of a body's events, where these are its ends. It takes time in proportion to
-/// the words, the accesses that are open at them, and at each end the locals that are written back.
+/// the words, and at each end to the locals that are written back.
 pub(crate) fn init_words(
     alloc: Global,
     layout: &Layout<'_>,
@@ -67,13 +66,13 @@ pub(crate) fn init_words(
     ensures { IfOk result (λ acts. acts ≡ spec.init_words (laid layout.now) None [] ends.now words.now) }
 {
     let mut acts = Items::new(alloc);
-    let mut opened = Items::new(alloc);
+    let mut opened = Opened::new(alloc);
     let mut before = None;
     let mut to_come = ends;
     let mut left = words;
     while let [word, rest @ ..] = left {
         let binding = told_binding(before, word, rest);
-        acts.push(init_word(alloc, layout, opened.as_slice(), to_come, word)?)?;
+        acts.push(init_word(alloc, layout, &opened, to_come, word)?)?;
         opened = pass_word(alloc, opened, word, binding)?;
         to_come = ends_behind(word, to_come);
         before = declares(word);
