@@ -1,5 +1,5 @@
 -- Acts that leave the same as others, and refuse no less.
-use Rattle.std.proofs.Common.{◌≡◌, ◌⊎◌, inl, inr, ℕ, List, [], ◌∷◌, ◌++◌, map, Contains, refl, sym, ap, subst, ◌∙◌}
+use Rattle.std.proofs.Common.{◌≡◌, ◌⊎◌, inl, inr, ℕ, false, List, [], ◌∷◌, ◌++◌, map, Contains, refl, sym, ap, subst, ◌∙◌}
 use Rattle.hv_tree.specs.declared.place.Place.{Place}
 use Rattle.hv_tree.specs.declared.refusal.Refusal.{Refusal}
 use Rattle.hv_rules.specs.declared.event.FlowEvent.{FlowEvent}
@@ -10,12 +10,18 @@ use Rattle.hv_rules.specs.Rules.{asks_whole, back_at, missing_at}
 use Rattle.hv_names.proofs.Members.{listed, contained}
 use Rattle.hv_pass.specs.declared.act.Act.{Act}
 use Rattle.hv_pass.specs.Refused.{Values, start, after_acts, acts_in, IsRefused}
+use Rattle.hv_ends.specs.declared.span.Span.{Span}
+use Rattle.hv_ends.specs.declared.span.End.{End}
+use Rattle.hv_ends.specs.Ends.{numbers_in, belongs_by, Agree}
+use Rattle.hv_layout.specs.Spans.{FollowOneAnother}
 use Rattle.hv_traces.specs.Mapped.{mapped}
 use Rattle.hv_init_law.specs.Layout.{Layout}
 use Rattle.hv_init_law.specs.Acts.{whole_asked, back_asked, missing_asked, sets}
 use Rattle.hv_init_law.proofs.Playing.{acts_both, AnyRefuses, any_of, any_left, any_right, values, refused_at, refused_of}
 use Rattle.hv_init_law.proofs.Telling.{back_keeps}
 use Rattle.hv_init_law.proofs.Refusing.{back_refuses, back_refused}
+use Rattle.hv_init.specs.Words.{span_asked, end_asked, acts_with}
+use Rattle.hv_init.proofs.Spans.{spans_refuse, spans_refused, spans_keep}
 
 pub record AsMuch (xs ys : List Act) : Type 0 where
   pub leaves : (v : Values) → after_acts xs v ≡ after_acts ys v
@@ -37,35 +43,53 @@ both a b c d h g = record {
 
 -- ---- what is asked and set at an event
 
--- locals that stand among others
-backs : (l : Layout) (at : Place) (ns ks : List ℕ) → ((n : ℕ) → Contains ns n → Contains ks n) → AsMuch (map (back_asked l at) ns) (map (back_asked l at) ks)
-backs l at ns ks to = record { leaves = λ v. back_keeps l at ns v ∙ sym (back_keeps l at ks v); refuses = by }
-  where
-    by : (v : Values) (r : Refusal) → AnyRefuses (map (back_asked l at) ns) v r → AnyRefuses (map (back_asked l at) ks) v r
-    by v r h =
-        let t = back_refuses l at ns v r h in
-        let n = t.1 in
-        subst (λ (q : Refusal). AnyRefuses (map (back_asked l at) ks) v q) (sym t.0) (back_refused l at ks n.0 v (listed ks n.0 (to n.0 (contained ns n.0 n.1))) n.2)
+-- what is asked where an event belongs to this
+abbrev pub belongs_asked : Layout → Place → Belongs → List Act
+belongs_asked l at of = map (back_asked l at) (back_at of) ++ missing_asked l at (missing_at of)
 
--- the acts of an event that belongs to this
-abbrev pub acts_with : Layout → FlowEvent → Place → Belongs → List Access → List Act
-acts_with l e at of xs = (whole_asked l at (asks_whole e) ++ (map (back_asked l at) (back_at of) ++ missing_asked l at (missing_at of))) ++ sets l e xs
+module _ (l : Layout) (follow : FollowOneAnother l) (at : Place) where
+  -- spans of locals that stand among others
+  spans_to : (spans : List Span) (ks : List ℕ) → ((n : ℕ) → Contains (numbers_in spans) n → Contains ks n) → AsMuch (map (span_asked l at) spans) (map (back_asked l at) ks)
+  spans_to spans ks to = record { leaves = λ v. spans_keep l at spans v ∙ sym (back_keeps l at ks v); refuses = by }
+    where
+      by : (v : Values) (r : Refusal) → AnyRefuses (map (span_asked l at) spans) v r → AnyRefuses (map (back_asked l at) ks) v r
+      by v r h =
+          let t = spans_refuse l follow at spans v r h in
+          let n = t.1 in
+          subst (λ (q : Refusal). AnyRefuses (map (back_asked l at) ks) v q) (sym t.0) (back_refused l at ks n.0 v (listed ks n.0 (to n.0 (contained (numbers_in spans) n.0 n.1))) n.2)
 
--- each local that is written back in the first is in the second, and a result is missing in both or in none
-abbrev pub NoMore : Belongs → Belongs → Type 0
-NoMore a b = ((n : ℕ) → Contains (back_at a) n → Contains (back_at b) n) × (missing_at a ≡ missing_at b)
+  -- and locals that stand in spans
+  spans_of : (spans : List Span) (ks : List ℕ) → ((n : ℕ) → Contains ks n → Contains (numbers_in spans) n) → AsMuch (map (back_asked l at) ks) (map (span_asked l at) spans)
+  spans_of spans ks to = record { leaves = λ v. back_keeps l at ks v ∙ sym (spans_keep l at spans v); refuses = by }
+    where
+      by : (v : Values) (r : Refusal) → AnyRefuses (map (back_asked l at) ks) v r → AnyRefuses (map (span_asked l at) spans) v r
+      by v r h =
+          let t = back_refuses l at ks v r h in
+          let n = t.1 in
+          subst (λ (q : Refusal). AnyRefuses (map (span_asked l at) spans) v q) (sym t.0)
+          (spans_refused l follow at spans n.0 v (listed (numbers_in spans) n.0 (to n.0 (contained ks n.0 n.1))) n.2)
 
-pub event_much : (l : Layout) (e : FlowEvent) (at : Place) (a b : Belongs) (xs : List Access) → NoMore a b → AsMuch (acts_with l e at a xs) (acts_with l e at b xs)
-event_much l e at a b xs (h, m) =
-    let whole = whole_asked l at (asks_whole e) in
-    let back = map (back_asked l at) (back_at a) in
-    let other_back = map (back_asked l at) (back_at b) in
-    let missing = missing_asked l at (missing_at a) in
-    let other_missing = missing_asked l at (missing_at b) in
-    let third = subst (λ q. AsMuch missing (missing_asked l at q)) m (same missing) in
-    both (whole ++ (back ++ missing)) (sets l e xs) (whole ++ (other_back ++ other_missing)) (sets l e xs)
-    (both whole (back ++ missing) whole (other_back ++ other_missing) (same whole) (both back missing other_back other_missing (backs l at (back_at a) (back_at b) h) third))
-    (same (sets l e xs))
+  -- an end that agrees with what the event belongs to
+  pub end_to : (e : End) (of : Belongs) → Agree (belongs_by e) of → AsMuch (end_asked l at e) (belongs_asked l at of)
+  end_to e of h =
+      both (map (span_asked l at) e.back) (missing_asked l at e.missing) (map (back_asked l at) (back_at of)) (missing_asked l at (missing_at of)) (spans_to e.back (back_at of) (λ n. (h.back n).0))
+      (subst (λ q. AsMuch (missing_asked l at e.missing) (missing_asked l at q)) h.missing (same (missing_asked l at e.missing)))
+
+  pub end_of : (e : End) (of : Belongs) → Agree (belongs_by e) of → AsMuch (belongs_asked l at of) (end_asked l at e)
+  end_of e of h =
+      both (map (back_asked l at) (back_at of)) (missing_asked l at (missing_at of)) (map (span_asked l at) e.back) (missing_asked l at e.missing) (spans_of e.back (back_at of) (λ n. (h.back n).1))
+      (subst (λ q. AsMuch (missing_asked l at q) (missing_asked l at e.missing)) h.missing (same (missing_asked l at e.missing)))
+
+-- what belongs to nothing asks nothing
+pub nothing_asked : (l : Layout) (at : Place) (of : Belongs) → back_at of ≡ [] → missing_at of ≡ false → [] ≡ belongs_asked l at of
+nothing_asked l at of e f = sym (ap (λ (ns : List ℕ). map (back_asked l at) ns ++ missing_asked l at (missing_at of)) e ∙ ap (missing_asked l at) f)
+
+pub as_much_by : (xs ys : List Act) → xs ≡ ys → AsMuch xs ys
+as_much_by xs ys e = subst (λ (zs : List Act). AsMuch xs zs) e (same xs)
+
+pub event_much : (l : Layout) (e : FlowEvent) (at : Place) (a b : List Act) (xs : List Access) → AsMuch a b → AsMuch (acts_with l e at a xs) (acts_with l e at b xs)
+event_much l e at a b xs h =
+    let whole = whole_asked l at (asks_whole e) in both (whole ++ a) (sets l e xs) (whole ++ b) (sets l e xs) (both whole a whole b (same whole) h) (same (sets l e xs))
 
 -- ---- flows
 

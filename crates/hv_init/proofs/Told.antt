@@ -1,13 +1,13 @@
 -- The words of a body's plan spell a flow of acts that stand for the body's events.
-use Rattle.std.proofs.Common.{◌≡◌, inl, inr, ℕ, Bool, true, false, if◌then◌else◌, List, [], ◌∷◌, ◌++◌, map, drop, Option, None, Contains, refl, sym, ap, subst, ◌∙◌, append_assoc, append-nil}
+use Rattle.std.proofs.Common.{◌≡◌, inl, inr, ℕ, Bool, true, false, if◌then◌else◌, List, [], ◌∷◌, ◌++◌, map, drop, Option, None, refl, sym, ap, subst, ◌∙◌, append_assoc, append-nil}
 use Rattle.hv_tree.specs.Core.{Core}
+use Rattle.hv_tree.specs.declared.place.Place.{Place}
 use Rattle.hv_tree.specs.declared.refusal.Refusal.{Refusal}
 use Rattle.hv_rules.specs.Earlier.{IsFirst}
 use Rattle.hv_rules.specs.Flow.{Flow, Skip, Do, Stop, Then, Either, Loop}
 use Rattle.hv_rules.specs.Locals.{CoreBody}
-use Rattle.hv_rules.specs.Events.{Belongs, ToNothing, Mark, Events, body_events}
+use Rattle.hv_rules.specs.Events.{Mark, Events, body_events}
 use Rattle.hv_rules.specs.States.{Access, binding_of}
-use Rattle.hv_names.proofs.Members.{listed}
 use Rattle.hv_pass.specs.declared.act.Act.{Act}
 use Rattle.hv_pass.specs.declared.plan.PassOp.{PassOp}
 use Rattle.hv_pass.specs.declared.plan.PassOp.TheVariants as pass
@@ -34,8 +34,9 @@ use Rattle.hv_init_law.specs.Layout.{Layout, Fits}
 use Rattle.hv_init_law.specs.Acts.{acts_at, acts_of}
 use Rattle.hv_init_law.specs.Law.{IsViolatedBy}
 use Rattle.hv_init_law.proofs.Refusing.{first_violation}
-use Rattle.hv_init.specs.Words.{next_end, belongs_at, event_acts, init_words}
-use Rattle.hv_init.proofs.Alike.{AsMuch, acts_with, NoMore, event_much, mapped_twice, flow_refuses}
+use Rattle.hv_layout.specs.Spans.{FollowOneAnother}
+use Rattle.hv_init.specs.Words.{end_asked, next_asked, ended_asked, acts_with, event_acts, init_words}
+use Rattle.hv_init.proofs.Alike.{AsMuch, as_much_by, belongs_asked, nothing_asked, end_to, end_of, event_much, mapped_twice, flow_refuses}
 
 -- a mark with its end, and the accesses that are open there
 abbrev Carrier : Type 0
@@ -44,57 +45,57 @@ Carrier = Handed × List Access
 abbrev marked : Carrier → Mark × List Access
 marked p = (mark_of p.0, p.1)
 
--- what the mark belongs to as the code knows it
-abbrev known : Handed → Belongs
-known (other m p) = ToNothing
-known (ended m e is agree) = belongs_by e
+-- what is asked at a mark as the code knows it
+abbrev asked_at : Layout → Place → Handed → List Act
+asked_at l at (other m p) = []
+asked_at l at (ended m e is agree) = end_asked l at e
 
 abbrev code_acts : Layout → Carrier → List Act
-code_acts l p = acts_with l (mark_of p.0).event (mark_of p.0).place (known p.0) p.1
+code_acts l p = acts_with l (mark_of p.0).event (mark_of p.0).place (asked_at l (mark_of p.0).place p.0) p.1
 
 -- ---- both acts refuse the same
 
-none_there : (n : ℕ) → Contains [] n → ⊥
-none_there n c = listed [] n c
+module _ (l : Layout) (follow : FollowOneAnother l) where
+  asked_to : (at : Place) (h : Handed) → AsMuch (asked_at l at h) (belongs_asked l at (mark_of h).belongs)
+  asked_to at (other m p) = as_much_by [] (belongs_asked l at m.belongs) (nothing_asked l at m.belongs p.1 p.3)
+  asked_to at (ended m e is agree) = end_to l follow at e m.belongs agree
 
-known_to : (h : Handed) → NoMore (known h) (mark_of h).belongs
-known_to (other m p) = (λ n c. absurd (none_there n c), sym p.3)
-known_to (ended m e is agree) = (λ n. (agree.back n).0, agree.missing)
+  asked_of : (at : Place) (h : Handed) → AsMuch (belongs_asked l at (mark_of h).belongs) (asked_at l at h)
+  asked_of at (other m p) = as_much_by (belongs_asked l at m.belongs) [] (sym (nothing_asked l at m.belongs p.1 p.3))
+  asked_of at (ended m e is agree) = end_of l follow at e m.belongs agree
 
-known_of : (h : Handed) → NoMore (mark_of h).belongs (known h)
-known_of (other m p) = (λ n c. subst (λ (ns : List ℕ). Contains ns n) p.1 c, p.3)
-known_of (ended m e is agree) = (λ n. (agree.back n).1, sym agree.missing)
+  code_to : (p : Carrier) → AsMuch (code_acts l p) (acts_at l (marked p))
+  code_to p =
+      let m = mark_of p.0 in event_much l m.event m.place (asked_at l m.place p.0) (belongs_asked l m.place m.belongs) p.1 (asked_to m.place p.0)
 
-code_to : (l : Layout) (p : Carrier) → AsMuch (code_acts l p) (acts_at l (marked p))
-code_to l p = event_much l (mark_of p.0).event (mark_of p.0).place (known p.0) (mark_of p.0).belongs p.1 (known_to p.0)
-
-code_of : (l : Layout) (p : Carrier) → AsMuch (acts_at l (marked p)) (code_acts l p)
-code_of l p = event_much l (mark_of p.0).event (mark_of p.0).place (mark_of p.0).belongs (known p.0) p.1 (known_of p.0)
+  code_of : (p : Carrier) → AsMuch (acts_at l (marked p)) (code_acts l p)
+  code_of p =
+      let m = mark_of p.0 in event_much l m.event m.place (belongs_asked l m.place m.belongs) (asked_at l m.place p.0) p.1 (asked_of m.place p.0)
 
 -- ---- one event
 
 -- an event whose binding and end are told
-event_told : (l : Layout) (m : Mark) (b last : Option ℕ) (xs : List Access) (ends rest : List End) (of : Belongs) (ops : List FlowOp) (word : List Act → PassOp) → b ≡ binding_of m.belongs → belongs_at m.event ends ≡ of → ends_after m.event ends ≡ rest →
-    word (event_acts l xs ends m.event m.place) ∷ init_words l last (open_behind m.event b xs) (ends_after m.event ends) ops ≡ word (acts_with l m.event m.place of xs) ∷ init_words l last (opens m xs) rest ops
-event_told l m b last xs ends rest of ops word e f g =
-    ap (λ (c : Belongs). word (acts_with l m.event m.place c xs) ∷ init_words l last (open_behind m.event b xs) (ends_after m.event ends) ops) f
-    ∙ ap (λ (es : List End). word (acts_with l m.event m.place of xs) ∷ init_words l last (open_behind m.event b xs) es ops) g
-    ∙ ap (λ (c : Option ℕ). word (acts_with l m.event m.place of xs) ∷ init_words l last (open_behind m.event c xs) rest ops) e
-    ∙ ap (λ (ys : List Access). word (acts_with l m.event m.place of xs) ∷ init_words l last ys rest ops) (open_same m.event m.belongs xs)
+event_told : (l : Layout) (m : Mark) (b last : Option ℕ) (xs : List Access) (ends rest : List End) (asked : List Act) (ops : List FlowOp) (word : List Act → PassOp) → b ≡ binding_of m.belongs → ended_asked l m.event m.place ends ≡ asked → ends_after m.event ends ≡ rest →
+    word (event_acts l xs ends m.event m.place) ∷ init_words l last (open_behind m.event b xs) (ends_after m.event ends) ops ≡ word (acts_with l m.event m.place asked xs) ∷ init_words l last (opens m xs) rest ops
+event_told l m b last xs ends rest asked ops word e f g =
+    ap (λ (c : List Act). word (acts_with l m.event m.place c xs) ∷ init_words l last (open_behind m.event b xs) (ends_after m.event ends) ops) f
+    ∙ ap (λ (es : List End). word (acts_with l m.event m.place asked xs) ∷ init_words l last (open_behind m.event b xs) es ops) g
+    ∙ ap (λ (c : Option ℕ). word (acts_with l m.event m.place asked xs) ∷ init_words l last (open_behind m.event c xs) rest ops) e
+    ∙ ap (λ (ys : List Access). word (acts_with l m.event m.place asked xs) ∷ init_words l last ys rest ops) (open_same m.event m.belongs xs)
 
 -- no end
 other_told : (l : Layout) (m : Mark) (b last : Option ℕ) (xs : List Access) (es more : List End) (ops : List FlowOp) (word : List Act → PassOp) → b ≡ binding_of m.belongs → is_end m.event ≡ false → es ≡ [] →
-    word (event_acts l xs (es ++ more) m.event m.place) ∷ init_words l last (open_behind m.event b xs) (ends_after m.event (es ++ more)) ops ≡ word (acts_with l m.event m.place ToNothing xs) ∷ init_words l last (opens m xs) more ops
+    word (event_acts l xs (es ++ more) m.event m.place) ∷ init_words l last (open_behind m.event b xs) (ends_after m.event (es ++ more)) ops ≡ word (acts_with l m.event m.place [] xs) ∷ init_words l last (opens m xs) more ops
 other_told l m b last xs es more ops word e not_end none =
     ap (λ (z : List End). word (event_acts l xs (z ++ more) m.event m.place) ∷ init_words l last (open_behind m.event b xs) (ends_after m.event (z ++ more)) ops) none
-    ∙ event_told l m b last xs more more ToNothing ops word e (ap (λ (t : Bool). if t then next_end more else ToNothing) not_end) (ap (λ (t : Bool). if t then drop 1 more else more) not_end)
+    ∙ event_told l m b last xs more more [] ops word e (ap (λ (t : Bool). if t then next_asked l m.place more else []) not_end) (ap (λ (t : Bool). if t then drop 1 more else more) not_end)
 
 -- an end
 ended_told : (l : Layout) (m : Mark) (b last : Option ℕ) (xs : List Access) (es more : List End) (end : End) (ops : List FlowOp) (word : List Act → PassOp) → b ≡ binding_of m.belongs → is_end m.event ≡ true → es ≡ end ∷ [] →
-    word (event_acts l xs (es ++ more) m.event m.place) ∷ init_words l last (open_behind m.event b xs) (ends_after m.event (es ++ more)) ops ≡ word (acts_with l m.event m.place (belongs_by end) xs) ∷ init_words l last (opens m xs) more ops
+    word (event_acts l xs (es ++ more) m.event m.place) ∷ init_words l last (open_behind m.event b xs) (ends_after m.event (es ++ more)) ops ≡ word (acts_with l m.event m.place (end_asked l m.place end) xs) ∷ init_words l last (opens m xs) more ops
 ended_told l m b last xs es more end ops word e is one =
     ap (λ (z : List End). word (event_acts l xs (z ++ more) m.event m.place) ∷ init_words l last (open_behind m.event b xs) (ends_after m.event (z ++ more)) ops) one
-    ∙ event_told l m b last xs (end ∷ more) more (belongs_by end) ops word e (ap (λ (t : Bool). if t then belongs_by end else ToNothing) is) (ap (λ (t : Bool). if t then more else end ∷ more) is)
+    ∙ event_told l m b last xs (end ∷ more) more (end_asked l m.place end) ops word e (ap (λ (t : Bool). if t then end_asked l m.place end else []) is) (ap (λ (t : Bool). if t then more else end ∷ more) is)
 
 -- ---- flows
 
@@ -195,9 +196,9 @@ module _ (tree : Core) (body : CoreBody) (l : Layout) where
   acts_same f e = sym (mapped_twice marked (acts_at l) f) ∙ ap (mapped (acts_at l)) e
 
   -- what the acts refuse first is what the body violates first
-  pub body_first : (es : List End) (plan : List FlowOp) (words : List PassOp) (v : Option Refusal) → Fits tree body l → plan ≡ plan_of_body tree body → AllAgree (map belongs_by es) (ends_in (body_events tree body)) →
+  pub body_first : (es : List End) (plan : List FlowOp) (words : List PassOp) (v : Option Refusal) → Fits tree body l → FollowOneAnother l → plan ≡ plan_of_body tree body → AllAgree (map belongs_by es) (ends_in (body_events tree body)) →
       words ≡ init_words l None [] es (drop 2 plan) → ((f : Flow (List Act)) → words ≡ plans.plan_of f → IsFirst (IsRefused f) v) → IsFirst (IsViolatedBy tree body) v
-  body_first es plan words v fit p agree w first =
+  body_first es plan words v fit follow p agree w first =
       let events = body_events tree body in
       let t = told events None None [] es (body_fits tree body).tidy agree (body_tells tree body).1 (body_steady tree body) in
       let f = mapped (code_acts l) t.flow in
@@ -207,5 +208,5 @@ module _ (tree : Core) (body : CoreBody) (l : Layout) where
       ∙ t.spells l [] [] refl ∙ append-nil (plans.plan_of f) in
       first_violation tree body l fit v
       (same_first (IsRefused f) (IsRefused (acts_of tree body l)) v
-      (λ r h. subst (λ g. IsRefused g r) same (flow_refuses (code_acts l) (λ p. acts_at l (marked p)) (code_to l) t.flow r h))
-      (λ r h. flow_refuses (λ p. acts_at l (marked p)) (code_acts l) (code_of l) t.flow r (subst (λ g. IsRefused g r) (sym same) h)) (first f spelled))
+      (λ r h. subst (λ g. IsRefused g r) same (flow_refuses (code_acts l) (λ p. acts_at l (marked p)) (code_to l follow) t.flow r h))
+      (λ r h. flow_refuses (λ p. acts_at l (marked p)) (code_acts l) (code_of l follow) t.flow r (subst (λ g. IsRefused g r) (sym same) h)) (first f spelled))

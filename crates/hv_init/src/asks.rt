@@ -1,8 +1,7 @@
 // What an event asks of the cells.
-ghost use Rattle.std.specs.Prelude.{◌≡◌, ◌++◌, ◌∷◌, [], false, if◌then◌else◌, Some, None, ◌+◌, map, IfOk, OnOk};
+ghost use Rattle.std.specs.Prelude.{◌≡◌, ◌++◌, ◌∷◌, [], false, if◌then◌else◌, Some, None, map, OnOk};
 ghost use Rattle.hv_rules.specs.Rules as rules;
 ghost use Rattle.hv_rules.specs.States as states;
-ghost use Rattle.hv_ends.specs.Ends.{belongs_by, numbers_from, numbers_in};
 ghost use Rattle.hv_layout.specs.Laid.{laid};
 ghost use Rattle.hv_pass.specs.declared.act.Act.TheVariants as act;
 ghost use Rattle.hv_init_law.specs.Acts as spec;
@@ -69,40 +68,16 @@ fn ask_event(
     }
 }
 
-fn ask_local(
-    layout: &Layout<'_>,
-    acts: &mut Items<Act>,
-    local: u32,
-    place: Place,
-) -> Result<(), NoMemory>
-    ensures { OnOk result (acts.new ≡ acts.old ++ spec.back_asked (laid layout.now) place local ∷ []) }
-{
-    let cells = layout.local_cells(local)?;
-    refuse(acts, cells, Rule::I2, place)
-}
-
-fn after(local: u32) -> Result<u32, NoMemory>
-    ensures { IfOk result (λ next. next ≡ local + 1) }
-{
-    local.checked_add(1).ok_or(NoMemory)
-}
-
 fn ask_span(
     layout: &Layout<'_>,
     acts: &mut Items<Act>,
     span: Span,
     place: Place,
 ) -> Result<(), NoMemory>
-    ensures { OnOk result (acts.new ≡ acts.old ++ map (spec.back_asked (laid layout.now) place) (numbers_from span.first span.count)) }
+    ensures { OnOk result (acts.new ≡ acts.old ++ ended.span_asked (laid layout.now) place span ∷ []) }
 {
-    let mut next = span.first;
-    let mut left = span.count;
-    while left > 0 {
-        ask_local(layout, acts, next, place)?;
-        next = after(next)?;
-        left -= 1;
-    }
-    Ok(())
+    let cells = layout.span_cells(span.first, span.count)?;
+    refuse(acts, cells, Rule::I2, place)
 }
 
 fn ask_spans(
@@ -111,7 +86,7 @@ fn ask_spans(
     spans: &[Span],
     place: Place,
 ) -> Result<(), NoMemory>
-    ensures { OnOk result (acts.new ≡ acts.old ++ map (spec.back_asked (laid layout.now) place) (numbers_in spans.now)) }
+    ensures { OnOk result (acts.new ≡ acts.old ++ map (ended.span_asked (laid layout.now) place) spans.now) }
 {
     for span in spans {
         ask_span(layout, acts, *span, place)?;
@@ -141,7 +116,7 @@ fn ask_end(
     end: &End,
     place: Place,
 ) -> Result<(), NoMemory>
-    ensures { OnOk result (acts.new ≡ acts.old ++ ended.asked_by (laid layout.now) place (belongs_by end.now)) }
+    ensures { OnOk result (acts.new ≡ acts.old ++ ended.end_asked (laid layout.now) place end.now) }
 {
     ask_spans(layout, acts, end.back.as_slice(), place)?;
     ask_result(layout, acts, end.missing, place)
@@ -153,7 +128,7 @@ fn ask_next(
     to_come: &[End],
     place: Place,
 ) -> Result<(), NoMemory>
-    ensures { OnOk result (acts.new ≡ acts.old ++ ended.asked_by (laid layout.now) place (ended.next_end to_come.now)) }
+    ensures { OnOk result (acts.new ≡ acts.old ++ ended.next_asked (laid layout.now) place to_come.now) }
 {
     match to_come.first() {
         Some(end) => ask_end(layout, acts, end, place),
@@ -168,7 +143,7 @@ fn ask_ended(
     event: &FlowEvent,
     place: Place,
 ) -> Result<(), NoMemory>
-    ensures { OnOk result (acts.new ≡ acts.old ++ ended.asked_by (laid layout.now) place (ended.belongs_at event.now to_come.now)) }
+    ensures { OnOk result (acts.new ≡ acts.old ++ ended.ended_asked (laid layout.now) event.now place to_come.now) }
 {
     if is_end(event) {
         ask_next(layout, acts, to_come, place)
@@ -185,7 +160,7 @@ pub(crate) fn ask(
     event: &FlowEvent,
     place: Place,
 ) -> Result<(), NoMemory>
-    ensures { OnOk result (acts.new ≡ acts.old ++ spec.asks (laid layout.now) (ended.mark_at event.now place to_come.now)) }
+    ensures { OnOk result (acts.new ≡ acts.old ++ (spec.whole_asked (laid layout.now) place (rules.asks_whole event.now) ++ ended.ended_asked (laid layout.now) event.now place to_come.now)) }
 {
     ask_event(layout, acts, event, place)?;
     ask_ended(layout, acts, to_come, event, place)

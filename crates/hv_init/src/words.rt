@@ -56,7 +56,7 @@ fn init_word(
 }
 
 /// The plan of the acts of a body's events, where these are its ends. It takes time in proportion to
-/// the words, and at each end to the locals that are written back.
+/// the words, and at each end to the rows of locals that are written back.
 pub(crate) fn init_words(
     alloc: Global,
     layout: &Layout<'_>,

@@ -4,3 +4,5 @@ pub mod CutLemmas
 pub mod Traced
 pub mod Ending
 pub mod Fitting
+-- the cells of locals that follow one another
+pub mod Following

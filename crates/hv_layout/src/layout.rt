@@ -7,9 +7,10 @@ ghost use Rattle.hv_plan.specs.Spelling.{plan_of_body};
 ghost use Rattle.hv_init_law.specs.Layout.{Fits};
 ghost use Rattle.hv_leaves.specs.Leaves.{AreSizesOf};
 ghost use Rattle.hv_layout.specs.Laid.{laid};
+ghost use Rattle.hv_layout.specs.Spans.{FollowOneAnother, span_of};
 
 use crate::cuts::{Cuts, number};
-use crate::ends::all_ends;
+use crate::ends::{all_ends, sum};
 use hv_leaves::{Leaves, Sizes};
 use hv_pass::Range;
 use hv_plan::FlowOp;
@@ -35,7 +36,8 @@ impl<'s> Layout<'s> {
         body: &Body<'_>,
         plan: &[FlowOp],
     ) -> Result<Layout<'s>, NoMemory>
-        ensures { IfOk result (λ l. AreSizesOf (core_tree declared.now) sizes.now → plan.now ≡ plan_of_body (core_tree declared.now) (body_by body.now) → Fits (core_tree declared.now) (body_by body.now) (laid l)) }
+        ensures fits { IfOk result (λ l. AreSizesOf (core_tree declared.now) sizes.now → plan.now ≡ plan_of_body (core_tree declared.now) (body_by body.now) → Fits (core_tree declared.now) (body_by body.now) (laid l)) }
+        ensures follow { IfOk result (λ l. AreSizesOf (core_tree declared.now) sizes.now → FollowOneAnother (laid l)) }
     {
         let locals = body_locals(alloc, body)?;
         let leaves = Leaves::of(alloc, declared, sizes, locals.as_slice())?;
@@ -68,6 +70,18 @@ impl<'s> Layout<'s> {
         ensures { IfOk result (λ r. r ≡ (laid self.now).range_of local []) }
     {
         self.cells(local, &[])
+    }
+
+    /// The cells of so many locals from one on.
+    pub fn span_cells(&self, first: u32, count: u32) -> Result<Range, NoMemory>
+        ensures { IfOk result (λ r. r ≡ span_of (laid self.now) first count) }
+    {
+        let from = self.local_cells(first)?.from;
+        let end = self.local_cells(sum(first, count)?)?.from;
+        Ok(Range {
+            from,
+            count: end.saturating_sub(from),
+        })
     }
 
     /// The cell that is no leaf's.

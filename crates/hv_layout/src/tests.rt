@@ -77,8 +77,8 @@ fn layout_of<'s>(
     Layout::of(alloc, declared, sizes, body, plan.as_slice())
 }
 
-// The cells of `p`, `p.a`, `p.b` and `q`.
-fn found(alloc: Global, layout: &Layout<'_>) -> Result<[Range; 4], NoMemory> {
+// The cells of `p`, `p.a`, `p.b`, `q`, and of both locals.
+fn found(alloc: Global, layout: &Layout<'_>) -> Result<[Range; 5], NoMemory> {
     let a = path(alloc, 0, 0)?;
     let b = path(alloc, 0, 1)?;
     Ok([
@@ -86,6 +86,7 @@ fn found(alloc: Global, layout: &Layout<'_>) -> Result<[Range; 4], NoMemory> {
         layout.path_cells(&a)?,
         layout.path_cells(&b)?,
         layout.local_cells(1)?,
+        layout.span_cells(0, 2)?,
     ])
 }
 
@@ -98,7 +99,13 @@ fn leaves_that_no_event_parts_share_a_cell(rt: HostRuntime) -> Result<(), Fail> 
     let sizes = Sizes::of(alloc, &declared)?;
     let bodies = bodies_of(alloc, &tree)?;
     assert_eq!(rt; bodies.len(), 1);
-    let wanted = [cells(1, 3), cells(1, 1), cells(2, 1), cells(4, 1)];
+    let wanted = [
+        cells(1, 3),
+        cells(1, 1),
+        cells(2, 1),
+        cells(4, 1),
+        cells(1, 4),
+    ];
     for body in &bodies {
         let layout = layout_of(alloc, &declared, &sizes, body)?;
         assert_eq!(rt; found(alloc, &layout)?, wanted);

@@ -1,0 +1,63 @@
+-- The cells of each local end where those of the next one begin.
+use Rattle.std.proofs.Common.{◌≡◌, ◌+◌, ◌≤◌, ℕ, zero, suc, Bool, true, false, if◌then◌else◌, List, [], ◌∷◌, refl, sym, ap, ◌∙◌, arith}
+use Rattle.hv_tree.specs.Core.{Core}
+use Rattle.hv_rules.specs.Types.{TypeShape, LeafShape, StructShape}
+use Rattle.hv_rules.specs.Locals.{Local}
+use Rattle.hv_pass.specs.declared.act.Range.{Range}
+use Rattle.hv_init_law.specs.Plain.{size, span, shape_by, ranges}
+use Rattle.hv_init_law.specs.Ranked.{rank, ranked}
+use Rattle.hv_leaves.specs.declared.sizes.Sizes.{Sizes}
+use Rattle.hv_leaves.specs.declared.leaves.Leaves.{Leaves}
+use Rattle.hv_leaves.specs.Leaves.{range_by, AreSizesOf, AreLeavesOf}
+use Rattle.hv_leaves.proofs.Ranges.{range_is}
+use Rattle.hv_layout.specs.Cuts.{stands}
+use Rattle.hv_layout.specs.Laid.{laid_by}
+use Rattle.hv_layout.specs.Spans.{FollowOneAnother}
+
+-- ---- all leaves by number
+
+all_of : (s : TypeShape) → (span s []).from + (span s []).count ≡ size s
+all_of LeafShape = refl
+all_of (StructShape ss) = omega arith
+
+from_first : (s : TypeShape) → (span s []).from ≡ 0
+from_first LeafShape = refl
+from_first (StructShape ss) = refl
+
+first_at : (tree : Core) (n : ℕ) (ls : List Local) → (ranges tree n ls 0 []).from ≡ n
+first_at tree n [] = refl
+first_at tree n (l ∷ ls) = let e = from_first (shape_by tree l.ty) in omega (arith, e)
+
+in_a_row : (tree : Core) (n : ℕ) (ls : List Local) (root : ℕ) → (ranges tree n ls root []).from + (ranges tree n ls root []).count ≡ (ranges tree n ls (suc root) []).from
+in_a_row tree n [] root = omega arith
+in_a_row tree n (l ∷ ls) zero =
+    let e = all_of (shape_by tree l.ty) in let f = first_at tree (n + size (shape_by tree l.ty)) ls in omega (arith, e, f)
+in_a_row tree n (l ∷ ls) (suc root) = in_a_row tree (n + size (shape_by tree l.ty)) ls root
+
+-- ---- cuts
+
+rises : (cut : ℕ → Bool) (i k : ℕ) → rank cut i ≤ rank cut (i + k)
+rises cut i zero = let e = ap (rank cut) (same i) in omega (arith, e)
+  where
+    same : (n : ℕ) → n + 0 ≡ n
+    same n = omega arith
+rises cut i (suc k) = let h = rises cut i k in let g = by (cut (suc (i + k))) in let e = ap (rank cut) (next i k) in omega (arith, h, g, e)
+  where
+    next : (n m : ℕ) → n + suc m ≡ suc (n + m)
+    next n m = omega arith
+
+    by : (b : Bool) → rank cut (i + k) ≤ (if b then suc (rank cut (i + k)) else rank cut (i + k))
+    by true = omega arith
+    by false = omega arith
+
+cut_row : (cut : ℕ → Bool) (a b : Range) → a.from + a.count ≡ b.from → (ranked cut a).from + (ranked cut a).count ≡ (ranked cut b).from
+cut_row cut a b e = let h = rises cut a.from a.count in let f = ap (rank cut) e in omega (arith, h, f)
+
+-- ---- the layout
+
+pub laid_follow : (tree : Core) (locals : List Local) (s : Sizes) (l : Leaves) (cuts : List ℕ) → AreSizesOf tree s → AreLeavesOf tree locals l → FollowOneAnother (laid_by (range_by s l) cuts)
+laid_follow tree locals s l cuts hs hl n =
+    cut_row (stands cuts) (range_by s l n []) (range_by s l (suc n) []) (ap (λ (r : Range). r.from + r.count) (same n) ∙ in_a_row tree 1 locals n ∙ sym (ap (λ (r : Range). r.from) (same (suc n))))
+  where
+    same : (root : ℕ) → range_by s l root [] ≡ ranges tree 1 locals root []
+    same root = range_is tree locals s l hs hl root []
