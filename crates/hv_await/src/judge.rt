@@ -79,8 +79,8 @@ fn judge_bodies<'t>(
     Ok(())
 }
 
-/// The first violation of the rules on handles. It takes time in proportion to the program, and for
-/// each branch and loop of a body to the body's locals.
+/// The first violation of the rules on handles. It takes time in proportion to the program and to the
+/// handles that end at each return and each block's end, times how deep branches and loops nest.
 pub fn await_refusal(alloc: Global, tree: &Tree) -> Result<Option<Refusal>, NoMemory>
     ensures first { IfOk result (λ v. IsFirst (IsViolatedInPhase HandlePhase (core_tree tree.now)) v) }
 {

@@ -52,9 +52,9 @@ fn first_among<'t>(
 }
 
 /// The first violation of the rules on initialisation: the one with the least place, at one place the
-/// one with the lesser rule. It takes time in proportion to the program, at each end to the cells of the
-/// locals that are written back, and for each branch and loop of a body to its cells, which are as few
-/// as its locals and the ends of the ranges that occur in it.
+/// one with the lesser rule. It takes time in proportion to the program and to the cells that its events
+/// name, at each end those of the locals that are written back, times how deep branches and loops nest.
+/// A body's cells are as few as its locals and the ends of the ranges that occur in it.
 pub fn init_refusal(alloc: Global, tree: &Tree) -> Result<Option<Refusal>, NoMemory>
     ensures first { IfOk result (λ v. IsFirst (IsViolatedInPhase InitPhase (core_tree tree.now)) v) }
 {
