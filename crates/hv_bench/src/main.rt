@@ -26,7 +26,9 @@ const STACK: usize = 0x1000_0000;
 const STEPS: u64 = 1_000_000_000_000;
 
 // The source's tree, if it has one.
-fn tree_of(alloc: Global, source: &[u8]) -> Result<Option<Tree>, AllocError> {
+fn tree_of(alloc: Global, source: &[u8]) -> Result<Option<Tree>, AllocError>
+    requires { length source.now < 4294967295 }
+{
     let Ok(lexed) = lex(alloc, source) else {
         return Ok(None);
     };
