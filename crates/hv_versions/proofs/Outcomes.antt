@@ -1,5 +1,6 @@
 -- From what a call does with the state to what is seen of it.
-use Rattle.std.proofs.Common.{◌≡◌, ℕ, zero, suc, ◌+◌, Bool, List, [], ◌∷◌, Result, Ok, Err, OnOk, OnErr, refl, sym, ◌∙◌, ap, subst, arith}
+use Rattle.std.proofs.Common.{◌≡◌, ℕ, zero, suc, ◌+◌, Bool, length, List, [], ◌∷◌, Result, Ok, Err, OnOk, OnErr, refl, sym, ◌∙◌, ap, subst, arith}
+use Rattle.hv_versions.specs.declared.cell.Cell.{Cell}
 use Rattle.hv_versions.specs.declared.state.State.{State}
 use Rattle.hv_versions.specs.Lists.{over}
 use Rattle.hv_versions.specs.Cells.{set_cell}
@@ -40,3 +41,11 @@ set_more v from n l =
 
 pub set_none : (v : Bool) (from : ℕ) (l : Levels) → set_level v from 0 l ≡ l
 set_none v from l = levels _ _ _ _ (over_nothing (λ k. set_cell v) from l.now) refl
+
+-- where nothing is reached, nothing is set
+pub set_unreached : (v : Bool) (from n : ℕ) (l : Levels) → length l.now ≡ 0 → set_level v from n l ≡ l
+set_unreached v from n l e = levels _ _ _ _ (unset l.now e) refl
+  where
+    unset : (cs : List Cell) → length cs ≡ 0 → over (λ k. set_cell v) from n cs ≡ cs
+    unset [] h = refl
+    unset (c ∷ cs) h = absurd (omega (arith, h))

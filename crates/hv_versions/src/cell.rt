@@ -38,17 +38,6 @@ impl Cell {
         }
     }
 
-    /// As a turn of a loop begins.
-    pub fn begun(self) -> Cell
-        ensures { result ≡ spec.begun_cell self }
-    {
-        Cell {
-            kept: self.is_reached(),
-            no: false,
-            yes: false,
-        }
-    }
-
     /// Behind a loop, one turn of which leaves the cell so.
     pub fn turned(self, turn: Cell) -> Cell
         ensures { result ≡ spec.turned_cell self turn }

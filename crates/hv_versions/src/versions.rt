@@ -57,10 +57,13 @@ impl Versions {
     }
 
     /// The cells of a range get a value.
-    #[tactic(auto, using(crate::proofs::Outcomes::set_more, crate::proofs::Outcomes::set_none))]
+    #[tactic(auto, using(crate::proofs::Outcomes::set_more, crate::proofs::Outcomes::set_none, crate::proofs::Outcomes::set_unreached))]
     pub fn set(&mut self, from: u32, count: u32, value: bool) -> Result<(), NoMemory>
         ensures { OnOk result (self.new ≡ spec.set_level value from count self.old) }
     {
+        if self.len() == 0 {
+            return Ok(());
+        }
         let from = from as usize;
         for k in 0..count as usize {
             self.set_one(from + k, value)?;
