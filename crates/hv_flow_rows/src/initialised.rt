@@ -100,6 +100,13 @@ I1 var x: Int = 1 while TK(^x) { } }
 I1 var x: Int = 1 while b { if b { K(^x) } } }
 I1 while b { var x: Int if b { &x = 1 } print(^x) } }
 I1 var x: Int while b { while b { &x = 1 } print(^x) } }
+# A declaration fills its local on the runs that come by it, whatever is in sight.
+I1 print(^x) var x: Int = 1 }
+I1 var z: Int = ^x var x: Int = 1 }
+I1 if b { var x: Int = 1 } print(^x) }
+I1 if b { var x: Int = 1 } else { print(^x) } }
+I1 while b { var x: Int = 1 } print(^x) }
+I1 while b { print(^x) var x: Int = 1 } }
 # The first by its place is answered; what violates a rule has its effect in the turn behind.
 I1 var x: Int print(^x) print(x) }
 I1 var p: P &p.x = 1 while b { print(^p.x) C(p) } }
@@ -214,6 +221,10 @@ inout r: Int = &y { inout s: Int = &r K(s) &s = 1 } }
 } fun z(c: Bool, v: set Int) { if c { &v = 1 return; } &v = 2 }
 } fun z(v: inout Int) { K(v) &v = 1 }
 } fun z(v: inout Int) { }
+} fun z(c: Bool, v: inout Int) { if c { return; } inout r: Int = &v while c { if c { return; } print(r) } }
+# A local keeps its value behind its block.
+{ var x: Int = 1 } print(x) }
+if b { var x: Int = 1 print(x) } else { var z: Int = 2 print(z) } }
 # What isn't written back may be left without one.
 } fun z(v: sink Int) { K(v) }
 } fun z(v: sink P) { K(v.x) }
@@ -265,7 +276,7 @@ fn the_first_violation_is_answered(rt: HostRuntime) -> Result<(), Fail> {
             rows = rows.saturating_add(1);
         }
     }
-    assert_eq!(rt; rows, 129);
+    assert_eq!(rt; rows, 135);
     Ok(())
 }
 
@@ -282,7 +293,7 @@ fn what_violates_nothing_is_accepted(rt: HostRuntime) -> Result<(), Fail> {
             rows = rows.saturating_add(1);
         }
     }
-    assert_eq!(rt; rows, 63);
+    assert_eq!(rt; rows, 66);
     Ok(())
 }
 

@@ -7,12 +7,12 @@ ghost use Rattle.hv_pass.specs.declared.act.Act.TheVariants as act;
 ghost use Rattle.hv_init_law.specs.Acts as spec;
 ghost use Rattle.hv_init.specs.Words as ended;
 
-use crate::path::has_index;
 use hv_ends::{End, Span, is_end};
 use hv_items::Items;
 use hv_layout::Layout;
 use hv_pass::{Act, Range};
 use hv_rules::{FlowEvent, StaticPath};
+use hv_steady::has_index;
 use hv_tree::{Place, Refusal, Rule};
 use std::alloc::AllocError as NoMemory;
 

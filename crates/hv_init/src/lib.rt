@@ -3,7 +3,6 @@
 
 mod asks;
 mod init;
-mod path;
 mod sets;
 mod words;
 

@@ -6,12 +6,12 @@ ghost use Rattle.hv_layout.specs.Laid.{laid};
 ghost use Rattle.hv_pass.specs.declared.act.Act.TheVariants as act;
 ghost use Rattle.hv_init_law.specs.Acts as spec;
 
-use crate::path::has_index;
 use hv_excl::{AccessMode, OpenAccess, Opened};
 use hv_items::Items;
 use hv_layout::Layout;
 use hv_pass::Act;
 use hv_rules::{FlowEvent, StaticPath};
+use hv_steady::has_index;
 use std::alloc::AllocError as NoMemory;
 
 fn set_path(

@@ -1,6 +1,7 @@
 pub mod Playing
 pub mod Shapes
 pub mod Leaves
+pub mod Kept
 pub mod PlainFits
 pub mod Telling
 pub mod Refusing

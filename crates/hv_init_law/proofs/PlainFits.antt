@@ -1,15 +1,17 @@
--- The layout that numbers all leaves one after the other fits each body.
-use Rattle.std.proofs.Common.{◌≡◌, ◌⊎◌, inl, inr, ◌+◌, ◌<◌, ◌≤◌, ℕ, zero, suc, true, false, List, [], ◌∷◌, refl, ap, ◌∙◌, arith}
+-- The layout that numbers all leaves of the locals that have cells one after the other fits each body.
+use Rattle.std.proofs.Common.{◌≡◌, ◌⊎◌, inl, inr, ◌+◌, ◌<◌, ◌≤◌, ℕ, zero, suc, Bool, true, false, List, [], ◌∷◌, refl, sym, ap, subst, ◌∙◌, arith}
 use Rattle.hv_tree.specs.Core.{Core}
 use Rattle.hv_rules.specs.Locals.{Local, CoreBody, locals_of}
 use Rattle.hv_rules.specs.States.{Leaf, is_front}
 use Rattle.hv_rules.specs.Rules.{leaves_from}
 use Rattle.hv_names.proofs.Members.{listed, contained}
+use Rattle.hv_pass.specs.declared.act.Range.{Range}
 use Rattle.hv_pass.specs.Refused.{covers}
-use Rattle.hv_init_law.specs.Layout.{Occurs, IsLeaf, leaf_of, Fits}
-use Rattle.hv_init_law.specs.Plain.{size, span, shape_by, ranges, plain}
+use Rattle.hv_init_law.specs.Layout.{Occurs, IsLeaf, leaf_of, IsFilledWhereAsked, Fits}
+use Rattle.hv_init_law.specs.Plain.{size, span, shape_by, ranges, kept, kept_before, plain_range, plain}
 use Rattle.hv_init_law.proofs.Shapes.{covers_of, covers_to, not_before, moved, split, begins, told, under}
 use Rattle.hv_init_law.proofs.Leaves.{AtRoot, root_to, root_of}
+use Rattle.hv_init_law.proofs.Kept.{from_if, all_if, none_if, one_number, kept_leaves}
 
 module _ (tree : Core) where
   all_told : (n : ℕ) (ls : List Local) (root : ℕ) (fields leaf : List ℕ) → AtRoot tree ls root leaf → covers (ranges tree n ls root fields) (ranges tree n ls root leaf).from ≡ is_front fields leaf
@@ -46,26 +48,50 @@ module _ (tree : Core) where
       let k = begins (shape_by tree l.ty) y g in let m = least (n + size (shape_by tree l.ty)) ls a x in absurd (omega (arith, e, k, m))
   one_root n (l ∷ ls) (suc a) (suc b) x y h g e = ap suc (one_root (n + size (shape_by tree l.ty)) ls a b x y h g e)
 
-  pub plain_fits : (body : CoreBody) → Fits tree body (plain tree body)
-  plain_fits body = record { told = tells; only = only; apart = apart; is_free = free }
+  -- those of a local's leaves among the ones that have cells
+  abbrev in_kept : CoreBody → (ℕ → Bool) → ℕ → List ℕ → Range
+  in_kept body tracks root fields = ranges tree 1 (kept tracks (locals_of body)) (kept_before tracks root) fields
+
+  pub plain_fits : (body : CoreBody) (tracks : ℕ → Bool) → ((root : ℕ) → tracks root ≡ false → IsFilledWhereAsked tree body root) → Fits tree body (plain tree body tracks)
+  plain_fits body tracks steady = record { told = tells; only = only; apart = apart; is_free = free; steady = steady }
     where
-      at : (root : ℕ) (leaf : List ℕ) → IsLeaf tree body (leaf_of root leaf) → AtRoot tree (locals_of body) root leaf
-      at root leaf h = root_to tree (locals_of body) root leaf (listed (leaves_from tree (locals_of body) root) leaf h)
+      -- where a leaf's cell is
+      here : (root : ℕ) (leaf : List ℕ) → (plain_range tree body tracks root leaf).from ≡ (in_kept body tracks root leaf).from
+      here root leaf = from_if (tracks root) (in_kept body tracks root leaf)
 
-      tells : (root : ℕ) (fields : List ℕ) → Occurs tree body root fields → (leaf : List ℕ) → IsLeaf tree body (leaf_of root leaf) →
-          covers (ranges tree 1 (locals_of body) root fields) (ranges tree 1 (locals_of body) root leaf).from ≡ is_front fields leaf
-      tells root fields o leaf h = all_told 1 (locals_of body) root fields leaf (at root leaf h)
+      same : (root : ℕ) (fields : List ℕ) → tracks root ≡ true → plain_range tree body tracks root fields ≡ in_kept body tracks root fields
+      same root fields t = all_if (tracks root) (in_kept body tracks root fields) t
 
-      only : (root : ℕ) (fields : List ℕ) → Occurs tree body root fields → (i : ℕ) → covers (ranges tree 1 (locals_of body) root fields) i ≡ true →
-          (leaf : List ℕ) × IsLeaf tree body (leaf_of root leaf) × (is_front fields leaf ≡ true) × ((ranges tree 1 (locals_of body) root leaf).from ≡ i)
-      only root fields o i h =
-          let t = all_under 1 (locals_of body) root fields i h in
-          (t.0, contained (leaves_from tree (locals_of body) root) t.0 (root_of tree (locals_of body) root t.0 t.1), t.2, t.3)
+      at : (root : ℕ) (leaf : List ℕ) → tracks root ≡ true → IsLeaf tree body (leaf_of root leaf) → AtRoot tree (kept tracks (locals_of body)) (kept_before tracks root) leaf
+      at root leaf t h =
+          subst (λ (T : Type 0). T) (sym (kept_leaves tree tracks (locals_of body) root leaf t)) (root_to tree (locals_of body) root leaf (listed (leaves_from tree (locals_of body) root) leaf h))
 
-      apart : (a b : Leaf) → IsLeaf tree body a → IsLeaf tree body b → (ranges tree 1 (locals_of body) a.root a.fields).from ≡ (ranges tree 1 (locals_of body) b.root b.fields).from → a.root ≡ b.root
-      apart a b h g e = one_root 1 (locals_of body) a.root b.root a.fields b.fields (at a.root a.fields h) (at b.root b.fields g) e
+      of : (root : ℕ) (leaf : List ℕ) → tracks root ≡ true → AtRoot tree (kept tracks (locals_of body)) (kept_before tracks root) leaf → IsLeaf tree body (leaf_of root leaf)
+      of root leaf t h =
+          contained (leaves_from tree (locals_of body) root) leaf (root_of tree (locals_of body) root leaf (subst (λ (T : Type 0). T) (kept_leaves tree tracks (locals_of body) root leaf t) h))
 
-      free : (root : ℕ) (fields : List ℕ) → Occurs tree body root fields → covers (ranges tree 1 (locals_of body) root fields) 0 ≡ false
+      tells : (root : ℕ) (fields : List ℕ) → Occurs tree body root fields → tracks root ≡ true → (leaf : List ℕ) → IsLeaf tree body (leaf_of root leaf) →
+          covers (plain_range tree body tracks root fields) (plain_range tree body tracks root leaf).from ≡ is_front fields leaf
+      tells root fields o t leaf h =
+          ap (λ (r : Range). covers r (plain_range tree body tracks root leaf).from) (same root fields t) ∙ ap (covers (in_kept body tracks root fields)) (here root leaf)
+          ∙ all_told 1 (kept tracks (locals_of body)) (kept_before tracks root) fields leaf (at root leaf t h)
+
+      only : (root : ℕ) (fields : List ℕ) → Occurs tree body root fields → (i : ℕ) → covers (plain_range tree body tracks root fields) i ≡ true →
+          (tracks root ≡ true) × (leaf : List ℕ) × IsLeaf tree body (leaf_of root leaf) × (is_front fields leaf ≡ true) × ((plain_range tree body tracks root leaf).from ≡ i)
+      only root fields o i h = by (tracks root) refl
+        where
+          by : (b : Bool) → tracks root ≡ b → (tracks root ≡ true) × (leaf : List ℕ) × IsLeaf tree body (leaf_of root leaf) × (is_front fields leaf ≡ true) × ((plain_range tree body tracks root leaf).from ≡ i)
+          by true t =
+              let u = all_under 1 (kept tracks (locals_of body)) (kept_before tracks root) fields i (sym (ap (λ (r : Range). covers r i) (same root fields t)) ∙ h) in
+              (t, u.0, of root u.0 t u.1, u.2, here root u.0 ∙ u.3)
+          by false t = let e = none_if (tracks root) (in_kept body tracks root fields) i t in cc
+
+      apart : (a b : Leaf) → IsLeaf tree body a → IsLeaf tree body b → tracks a.root ≡ true → tracks b.root ≡ true → (plain_range tree body tracks a.root a.fields).from ≡ (plain_range tree body tracks b.root b.fields).from → a.root ≡ b.root
+      apart a b h g t u e =
+          one_number tracks a.root b.root t u
+          (one_root 1 (kept tracks (locals_of body)) (kept_before tracks a.root) (kept_before tracks b.root) a.fields b.fields (at a.root a.fields t h) (at b.root b.fields u g) (sym (here a.root a.fields) ∙ (e ∙ here b.root b.fields)))
+
+      free : (root : ℕ) (fields : List ℕ) → Occurs tree body root fields → covers (plain_range tree body tracks root fields) 0 ≡ false
       free root fields o =
-          let h = least 1 (locals_of body) root fields in
-          not_before (ranges tree 1 (locals_of body) root fields).from (ranges tree 1 (locals_of body) root fields).count 0 (omega (arith, h))
+          let h = least 1 (kept tracks (locals_of body)) (kept_before tracks root) fields in
+          let e = here root fields in not_before (plain_range tree body tracks root fields).from (plain_range tree body tracks root fields).count 0 (omega (arith, h, e))

@@ -8,11 +8,12 @@ use Rattle.hv_rules.specs.Rules.{leaves_from}
 use Rattle.hv_names.proofs.Members.{listed}
 use Rattle.hv_pass.specs.declared.act.Range.{Range}
 use Rattle.hv_pass.specs.Refused.{covers}
-use Rattle.hv_init_law.specs.Layout.{Occurs, IsLeaf, leaf_of, Fits}
-use Rattle.hv_init_law.specs.Plain.{size, span, shape_by, ranges, plain}
+use Rattle.hv_init_law.specs.Layout.{Occurs, IsLeaf, leaf_of, IsFilledWhereAsked, Fits}
+use Rattle.hv_init_law.specs.Plain.{size, span, shape_by, ranges, kept, kept_before, range_if, plain_range, plain}
 use Rattle.hv_init_law.specs.Ranked.{rank, ranked, merged, Cuts}
 use Rattle.hv_init_law.proofs.Shapes.{covers_of, covers_to, same_tests, split, begins}
 use Rattle.hv_init_law.proofs.Leaves.{AtRoot, root_to}
+use Rattle.hv_init_law.proofs.Kept.{no_cell, from_if, kept_rises, kept_leaves}
 use Rattle.hv_init_law.proofs.PlainFits.{least, plain_fits}
 
 -- ---- ranks
@@ -119,23 +120,34 @@ module _ (tree : Core) where
       from_first (StructShape ss) = refl
   first_least n (k ∷ ls) (suc a) x h = first_least (n + size (shape_by tree k.ty)) ls a x h
 
-  module _ (body : CoreBody) (cut : ℕ → Bool) (cuts : Cuts tree body cut) where
+  module _ (body : CoreBody) (tracks cut : ℕ → Bool) (steady : (root : ℕ) → tracks root ≡ false → IsFilledWhereAsked tree body root) (cuts : Cuts tree body tracks cut) where
     abbrev plain_at : ℕ → List ℕ → Range
-    plain_at root fields = ranges tree 1 (locals_of body) root fields
+    plain_at root fields = plain_range tree body tracks root fields
 
-    fit : Fits tree body (plain tree body)
-    fit = plain_fits tree body
+    abbrev locals : List Local
+    locals = kept tracks (locals_of body)
 
-    at : (leaf : Leaf) → IsLeaf tree body leaf → AtRoot tree (locals_of body) leaf.root leaf.fields
-    at leaf h = root_to tree (locals_of body) leaf.root leaf.fields (listed (leaves_from tree (locals_of body) leaf.root) leaf.fields h)
+    fit : Fits tree body (plain tree body tracks)
+    fit = plain_fits tree body tracks steady
+
+    at : (leaf : Leaf) → IsLeaf tree body leaf → tracks leaf.root ≡ true → AtRoot tree locals (kept_before tracks leaf.root) leaf.fields
+    at leaf h t =
+        subst (λ (T : Type 0). T) (sym (kept_leaves tree tracks (locals_of body) leaf.root leaf.fields t))
+        (root_to tree (locals_of body) leaf.root leaf.fields (listed (leaves_from tree (locals_of body) leaf.root) leaf.fields h))
+
+    here : (root : ℕ) (fields : List ℕ) → (plain_at root fields).from ≡ (ranges tree 1 locals (kept_before tracks root) fields).from
+    here root fields = from_if (tracks root) (ranges tree 1 locals (kept_before tracks root) fields)
 
     -- leaves of two locals have a cut between them
-    parts : (a b : Leaf) → IsLeaf tree body a → IsLeaf tree body b → a.root < b.root → rank cut (plain_at a.root a.fields).from < rank cut (plain_at b.root b.fields).from
-    parts a b h g l =
-        let o = in_order 1 (locals_of body) a.root b.root a.fields (at a h) l in
-        let m = first_least 1 (locals_of body) b.root b.fields (at b g) in
-        let p = above cut (plain_at a.root a.fields).from (plain_at b.root []).from o (cuts.locals b g) in
-        let q = rises cut (plain_at b.root []).from (plain_at b.root b.fields).from m in omega (arith, p, q)
+    parts : (a b : Leaf) → IsLeaf tree body a → IsLeaf tree body b → tracks a.root ≡ true → tracks b.root ≡ true → a.root < b.root → rank cut (plain_at a.root a.fields).from < rank cut (plain_at b.root b.fields).from
+    parts a b h g t u l =
+        let o = in_order 1 locals (kept_before tracks a.root) (kept_before tracks b.root) a.fields (at a h t) (kept_rises tracks a.root b.root l t) in
+        let m = first_least 1 locals (kept_before tracks b.root) b.fields (at b g u) in
+        let x = here a.root a.fields in
+        let y = here b.root [] in
+        let z = here b.root b.fields in
+        let p = above cut (plain_at a.root a.fields).from (plain_at b.root []).from (omega (arith, o, x, y)) (cuts.locals b g u) in
+        let q = rises cut (plain_at b.root []).from (plain_at b.root b.fields).from (omega (arith, m, y, z)) in omega (arith, p, q)
 
     one_of : (a b : ℕ) → (a < b → ⊥) → (b < a → ⊥) → a ≡ b
     one_of a b f g = by (split a b) (split b a)
@@ -145,29 +157,52 @@ module _ (tree : Core) where
         by (inr p) (inl h) = absurd (f h)
         by (inr (i, p)) (inr (j, q)) = omega (arith, p, q)
 
-    pub merged_fits : Fits tree body (merged tree body cut)
-    merged_fits = record { told = tells; only = only; apart = apart; is_free = free }
+    -- a local without cells still has none
+    none_left : (root : ℕ) (fields : List ℕ) (i : ℕ) → tracks root ≡ false → covers (ranked cut (plain_at root fields)) i ≡ false
+    none_left root fields i t = by (tracks root) t (ranges tree 1 locals (kept_before tracks root) fields)
       where
-        same : (root : ℕ) (fields : List ℕ) → Occurs tree body root fields → (i : ℕ) → covers (ranked cut (plain_at root fields)) (rank cut i) ≡ covers (plain_at root fields) i
-        same root fields o i = same_range cut (plain_at root fields) (cuts.begins root fields o) (cuts.ends root fields o) i
+        by : (b : Bool) → b ≡ false → (r : Range) → covers (ranked cut (range_if b r)) i ≡ false
+        by true e r = cc
+        by false e r = empty (rank cut r.from) (rank cut (r.from + 0)) i (ap (rank cut) (plus_none r.from))
+          where
+            plus_none : (n : ℕ) → n + 0 ≡ n
+            plus_none n = omega arith
 
-        tells : (root : ℕ) (fields : List ℕ) → Occurs tree body root fields → (leaf : List ℕ) → IsLeaf tree body (leaf_of root leaf) → covers (ranked cut (plain_at root fields)) (rank cut (plain_at root leaf).from) ≡ is_front fields leaf
-        tells root fields o leaf h = same root fields o (plain_at root leaf).from ∙ fit.told root fields o leaf h
+            empty : (a b k : ℕ) → b ≡ a → covers (record { from = a; count = b - a }) k ≡ false
+            empty a b k f = no_cell a (b - a) k (omega (arith, f))
+
+    pub merged_fits : Fits tree body (merged tree body tracks cut)
+    merged_fits = record { told = tells; only = only; apart = apart; is_free = free; steady = steady }
+      where
+        same : (root : ℕ) (fields : List ℕ) → Occurs tree body root fields → tracks root ≡ true → (i : ℕ) → covers (ranked cut (plain_at root fields)) (rank cut i) ≡ covers (plain_at root fields) i
+        same root fields o t i = same_range cut (plain_at root fields) (cuts.begins root fields o t) (cuts.ends root fields o t) i
+
+        tells : (root : ℕ) (fields : List ℕ) → Occurs tree body root fields → tracks root ≡ true → (leaf : List ℕ) → IsLeaf tree body (leaf_of root leaf) →
+            covers (ranked cut (plain_at root fields)) (rank cut (plain_at root leaf).from) ≡ is_front fields leaf
+        tells root fields o t leaf h = same root fields o t (plain_at root leaf).from ∙ fit.told root fields o t leaf h
 
         only : (root : ℕ) (fields : List ℕ) → Occurs tree body root fields → (i : ℕ) → covers (ranked cut (plain_at root fields)) i ≡ true →
-            (leaf : List ℕ) × IsLeaf tree body (leaf_of root leaf) × (is_front fields leaf ≡ true) × (rank cut (plain_at root leaf).from ≡ i)
-        only root fields o i h =
-            let c = some_cell cut (plain_at root fields) (cuts.begins root fields o) (cuts.ends root fields o) i h in
-            let t = fit.only root fields o c.0 (sym (same root fields o c.0) ∙ subst (λ (k : ℕ). covers (ranked cut (plain_at root fields)) k ≡ true) (sym c.1) h) in
-            (t.0, t.1, t.2, ap (rank cut) t.3 ∙ c.1)
+            (tracks root ≡ true) × (leaf : List ℕ) × IsLeaf tree body (leaf_of root leaf) × (is_front fields leaf ≡ true) × (rank cut (plain_at root leaf).from ≡ i)
+        only root fields o i h = by (tracks root) refl
+          where
+            by : (b : Bool) → tracks root ≡ b → (tracks root ≡ true) × (leaf : List ℕ) × IsLeaf tree body (leaf_of root leaf) × (is_front fields leaf ≡ true) × (rank cut (plain_at root leaf).from ≡ i)
+            by true t =
+                let c = some_cell cut (plain_at root fields) (cuts.begins root fields o t) (cuts.ends root fields o t) i h in
+                let u = fit.only root fields o c.0 (sym (same root fields o t c.0) ∙ subst (λ (k : ℕ). covers (ranked cut (plain_at root fields)) k ≡ true) (sym c.1) h) in
+                (t, u.1, u.2, u.3, ap (rank cut) u.4 ∙ c.1)
+            by false t = let e = none_left root fields i t in cc
 
-        apart : (a b : Leaf) → IsLeaf tree body a → IsLeaf tree body b → rank cut (plain_at a.root a.fields).from ≡ rank cut (plain_at b.root b.fields).from → a.root ≡ b.root
-        apart a b h g e =
-            one_of a.root b.root (λ l. let p = parts a b h g l in absurd (omega (arith, p, e))) (λ l. let p = parts b a g h l in absurd (omega (arith, p, e)))
+        apart : (a b : Leaf) → IsLeaf tree body a → IsLeaf tree body b → tracks a.root ≡ true → tracks b.root ≡ true → rank cut (plain_at a.root a.fields).from ≡ rank cut (plain_at b.root b.fields).from → a.root ≡ b.root
+        apart a b h g t u e =
+            one_of a.root b.root (λ l. let p = parts a b h g t u l in absurd (omega (arith, p, e))) (λ l. let p = parts b a g h u t l in absurd (omega (arith, p, e)))
 
         free : (root : ℕ) (fields : List ℕ) → Occurs tree body root fields → covers (ranked cut (plain_at root fields)) 0 ≡ false
-        free root fields o = same root fields o 0 ∙ fit.is_free root fields o
+        free root fields o = by (tracks root) refl
+          where
+            by : (b : Bool) → tracks root ≡ b → covers (ranked cut (plain_at root fields)) 0 ≡ false
+            by true t = same root fields o t 0 ∙ fit.is_free root fields o
+            by false t = none_left root fields 0 t
 
 -- where each number is a cut, there are cuts enough
-pub all_cut : (tree : Core) (body : CoreBody) → Cuts tree body (λ i. true)
-all_cut tree body = record { begins = λ root fields o. refl; ends = λ root fields o. refl; locals = λ leaf h. refl }
+pub all_cut : (tree : Core) (body : CoreBody) (tracks : ℕ → Bool) → Cuts tree body tracks (λ i. true)
+all_cut tree body tracks = record { begins = λ root fields o t. refl; ends = λ root fields o t. refl; locals = λ leaf h t. refl }

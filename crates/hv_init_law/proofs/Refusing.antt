@@ -22,12 +22,12 @@ use Rattle.hv_pass.proofs.Firsts.{same_first}
 use Rattle.hv_traces.specs.Carried.{without}
 use Rattle.hv_traces.specs.Opened.{opened_at}
 use Rattle.hv_traces.proofs.OpenedLemmas.{is_opened_at}
-use Rattle.hv_init_law.specs.Layout.{Layout, IsOf, SpeaksOf, Occurs, leaf_of, Fits}
+use Rattle.hv_init_law.specs.Layout.{Layout, IsOf, SpeaksOf, Occurs, leaf_of, AsksFor, Fits}
 use Rattle.hv_init_law.specs.Acts.{refusal, cells, whole_asked, back_asked, missing_asked, set_path, set_by_mode, set_at_close, sets, acts_at, acts_of}
 use Rattle.hv_init_law.specs.Law.{values_after, IsViolatedBy}
 use Rattle.hv_init_law.proofs.Playing.{AnyRefuses, any_of, any_left, any_right, refused_at, refused_of}
 use Rattle.hv_init_law.proofs.Shapes.{covers_to}
-use Rattle.hv_init_law.proofs.Telling.{whole_keeps, back_keeps, front, known, Says, says_after}
+use Rattle.hv_init_law.proofs.Telling.{never, whole_keeps, back_keeps, front, known, Says, says_after}
 
 -- ---- what is set refuses nothing
 
@@ -190,10 +190,15 @@ init_rule _ e = cc
 module _ (tree : Core) (body : CoreBody) (l : Layout) (fit : Fits tree body l) where
   hole_of : (ms : List Mark) (root : ℕ) (fields : List ℕ) (v : Values) → Occurs tree body root fields → Says tree body l fit (Filled ms) v → HasNo l root fields v → HasHole tree body (state_after ms) root fields
   hole_of ms root fields v o h (i, c, n) =
-      let t = fit.only root fields o i c in (t.0, t.1, t.2, sym (h.0 (leaf_of root t.0) t.1) ∙ ap v t.3 ∙ n)
+      let t = fit.only root fields o i c in (t.1, t.2, t.3, sym (h.0 (leaf_of root t.1) t.2 t.0) ∙ ap v t.4 ∙ n)
 
-  no_of : (ms : List Mark) (root : ℕ) (fields : List ℕ) (v : Values) → Occurs tree body root fields → Says tree body l fit (Filled ms) v → HasHole tree body (state_after ms) root fields → HasNo l root fields v
-  no_of ms root fields v o h (leaf, i, f, n) = (l.cell_of (leaf_of root leaf), fit.told root fields o leaf i ∙ f, h.0 (leaf_of root leaf) i ∙ n)
+  -- what has no cells has no hole where it is asked for
+  no_of : (ms : List Mark) (m : Mark) (root : ℕ) (fields : List ℕ) (v : Values) → Trace tree body (ms ++ m ∷ []) → Occurs tree body root fields → AsksFor m root → Says tree body l fit (Filled ms) v → HasHole tree body (state_after ms) root fields → HasNo l root fields v
+  no_of ms m root fields v t o a h (leaf, i, f, n) = by (l.tracks root) refl
+    where
+      by : (b : Bool) → l.tracks root ≡ b → HasNo l root fields v
+      by true e = (l.cell_of (leaf_of root leaf), fit.told root fields o e leaf i ∙ f, h.0 (leaf_of root leaf) i e ∙ n)
+      by false e = absurd (never (Filled ms (leaf_of root leaf)) n (fit.steady root e ms m t a leaf i))
 
   violation : (ms : List Mark) (m : Mark) (r : Refusal) (k : Rule) → r ≡ refusal k m.place → phase_of k ≡ Some InitPhase → Trace tree body (ms ++ m ∷ []) → Violates tree body (state_after ms) k m → IsViolatedBy tree body r
   violation ms m r k e p t v =
@@ -223,11 +228,11 @@ module _ (tree : Core) (body : CoreBody) (l : Layout) (fit : Fits tree body l) w
   refused_for ms m v k t h (inl e) g =
       let w = subst (λ (z : Rule). Violates tree body (state_after ms) z m) e g in
       let p = w.0 in
-      let n = no_of ms p.root (fields_of p.steps) v (known tree body ms m t p.root (fields_of p.steps) (inl (asked_named m.event p w.1))) h w.2 in
+      let n = no_of ms m p.root (fields_of p.steps) v t (known tree body ms m t p.root (fields_of p.steps) (inl (asked_named m.event p w.1))) (inl (p, w.1, refl)) h w.2 in
       subst (λ (z : Rule). AnyRefuses (acts_at l (m, Open ms)) v (refusal z m.place)) (sym e) (first_refused l m (Open ms) v (refusal rule.I1 m.place) (whole_refused l m.place (asks_whole m.event) p v w.1 n))
   refused_for ms m v k t h (inr (inl e)) g =
       let w = subst (λ (z : Rule). Violates tree body (state_after ms) z m) e g in
-      let n = no_of ms w.0 [] v (known tree body ms m t w.0 [] (inr (w.1, refl))) h w.2 in
+      let n = no_of ms m w.0 [] v t (known tree body ms m t w.0 [] (inr (w.1, refl))) (inr w.1) h w.2 in
       subst (λ (z : Rule). AnyRefuses (acts_at l (m, Open ms)) v (refusal z m.place)) (sym e)
       (second_refused l m (Open ms) v (refusal rule.I2 m.place) (back_refused l m.place (back_at m.belongs) w.0 v (listed (back_at m.belongs) w.0 w.1) n))
   refused_for ms m v k t h (inr (inr e)) g =

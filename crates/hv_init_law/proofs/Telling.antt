@@ -150,34 +150,34 @@ module _ (tree : Core) (body : CoreBody) where
 
   module _ (l : Layout) (fit : Fits tree body l) where
     -- the range has the cells of the leaves under the fields, of whatever local
-    covered : (root : ℕ) (fields : List ℕ) → Occurs tree body root fields → (leaf : Leaf) → IsLeaf tree body leaf → covers (l.range_of root fields) (l.cell_of leaf) ≡ ((root == leaf.root) && is_front fields leaf.fields)
-    covered root fields o leaf h = by (root == leaf.root) refl
+    covered : (root : ℕ) (fields : List ℕ) → Occurs tree body root fields → (leaf : Leaf) → IsLeaf tree body leaf → l.tracks leaf.root ≡ true → covers (l.range_of root fields) (l.cell_of leaf) ≡ ((root == leaf.root) && is_front fields leaf.fields)
+    covered root fields o leaf h t = by (root == leaf.root) refl
       where
         by : (b : Bool) → (root == leaf.root) ≡ b → covers (l.range_of root fields) (l.cell_of leaf) ≡ (b && is_front fields leaf.fields)
         by true e =
             let q = eqb-true root leaf.root e in
-            subst (λ (z : ℕ). covers (l.range_of z fields) (l.cell_of leaf) ≡ is_front fields leaf.fields) (sym q) (fit.told leaf.root fields (subst (λ (z : ℕ). Occurs tree body z fields) q o) leaf.fields h)
+            subst (λ (z : ℕ). covers (l.range_of z fields) (l.cell_of leaf) ≡ is_front fields leaf.fields) (sym q) (fit.told leaf.root fields (subst (λ (z : ℕ). Occurs tree body z fields) q o) t leaf.fields h)
         by false e =
             not_so (covers (l.range_of root fields) (l.cell_of leaf))
-            (λ c. let t = fit.only root fields o (l.cell_of leaf) c in never (root == leaf.root) e (eq-eqb root leaf.root (fit.apart (leaf_of root t.0) leaf t.1 h t.3)))
+            (λ c. let u = fit.only root fields o (l.cell_of leaf) c in never (root == leaf.root) e (eq-eqb root leaf.root (fit.apart (leaf_of root u.1) leaf u.2 h u.0 t u.4)))
 
     -- the cells say so, and the free one is a no
     abbrev pub Says : (Leaf → Bool) → Values → Type 0
-    Says filled v = ((leaf : Leaf) → IsLeaf tree body leaf → v (l.cell_of leaf) ≡ filled leaf) × (v l.free ≡ false)
+    Says filled v = ((leaf : Leaf) → IsLeaf tree body leaf → l.tracks leaf.root ≡ true → v (l.cell_of leaf) ≡ filled leaf) × (v l.free ≡ false)
 
     path_says : (p : StaticPath) (value : Bool) (filled : Leaf → Bool) (v : Values) → Occurs tree body p.root (fields_of p.steps) → Says filled v → Says (changed p value filled) (after_acts (set_path l p value) v)
     path_says p value filled v o h = by (has_index p.steps)
       where
         by : (b : Bool) → Says (λ leaf. if states.covers p leaf && not b then value else filled leaf) (after_acts (if b then [] else act.Set (cells l p) value ∷ []) v)
-        by true = (λ leaf i. passed_by (states.covers p leaf) value (v (l.cell_of leaf)) (filled leaf) (h.0 leaf i), h.1)
+        by true = (λ leaf i t. passed_by (states.covers p leaf) value (v (l.cell_of leaf)) (filled leaf) (h.0 leaf i t), h.1)
         by false = (
-          λ leaf i. ap (λ (b : Bool). if b then value else v (l.cell_of leaf)) (covered p.root (fields_of p.steps) o leaf i) ∙ picked (states.covers p leaf) value (v (l.cell_of leaf)) (filled leaf) (h.0 leaf i),
+          λ leaf i t. ap (λ (b : Bool). if b then value else v (l.cell_of leaf)) (covered p.root (fields_of p.steps) o leaf i t) ∙ picked (states.covers p leaf) value (v (l.cell_of leaf)) (filled leaf) (h.0 leaf i t),
           ap (λ (b : Bool). if b then value else v l.free) (fit.is_free p.root (fields_of p.steps) o) ∙ h.1,
         )
 
     whole_says : (n : ℕ) (filled : Leaf → Bool) (v : Values) → Occurs tree body n [] → Says filled v → Says (emptied n filled) (after_acts (act.Set (l.range_of n []) false ∷ []) v)
     whole_says n filled v o h = (
-      λ leaf i. ap (λ (b : Bool). if b then false else v (l.cell_of leaf)) (covered n [] o leaf i) ∙ picked_whole (n == leaf.root) false (v (l.cell_of leaf)) (filled leaf) (h.0 leaf i),
+      λ leaf i t. ap (λ (b : Bool). if b then false else v (l.cell_of leaf)) (covered n [] o leaf i t) ∙ picked_whole (n == leaf.root) false (v (l.cell_of leaf)) (filled leaf) (h.0 leaf i t),
       ap (λ (b : Bool). if b then false else v l.free) (fit.is_free n [] o) ∙ h.1,
     )
 
@@ -224,7 +224,7 @@ module _ (tree : Core) (body : CoreBody) where
     pub says_after : (ps : List (Mark × List Access)) → IsTrace (opened_at tree body) ps → Says (Filled (without ps)) (values_after l ps)
     says_after ps t =
         let p = trace_of opens (body_events tree body) [] (body_steady tree body) ps t in
-        says_all ps start pass.start (all_known [] ps p.0) tt p.1 (λ leaf h. refl, refl)
+        says_all ps start pass.start (all_known [] ps p.0) tt p.1 (λ leaf h t. refl, refl)
 
     pub tells : Tells tree body l
     tells ps t = (says_after ps t).0

@@ -1,5 +1,5 @@
 -- What the cells tell, and what the acts refuse.
-use Rattle.std.specs.Prelude.{◌≡◌, ◌⊎◌, List, [], ◌∷◌, map, Some}
+use Rattle.std.specs.Prelude.{◌≡◌, ◌⊎◌, true, List, [], ◌∷◌, map, Some}
 use Rattle.hv_tree.specs.declared.refusal.Refusal.{Refusal}
 use Rattle.hv_tree.specs.Core.{Core}
 use Rattle.hv_rules.specs.Flow.{IsTrace}
@@ -18,9 +18,9 @@ use Rattle.hv_init_law.specs.Acts.{acts_at}
 abbrev pub values_after : Layout → List (Mark × List Access) → Values
 values_after l ps = after_acts (acts_in (map (acts_at l) ps)) start
 
--- on each trace the cell of each leaf says whether it is initialised
+-- on each trace the cell of each leaf that has one says whether it is initialised
 abbrev pub Tells : Core → CoreBody → Layout → Type 0
-Tells tree body l = (ps : List (Mark × List Access)) → IsTrace (opened_at tree body) ps → (leaf : Leaf) → IsLeaf tree body leaf → values_after l ps (l.cell_of leaf) ≡ Filled (without ps) leaf
+Tells tree body l = (ps : List (Mark × List Access)) → IsTrace (opened_at tree body) ps → (leaf : Leaf) → IsLeaf tree body leaf → l.tracks leaf.root ≡ true → values_after l ps (l.cell_of leaf) ≡ Filled (without ps) leaf
 
 -- some trace of the body violates the rule there, which is one on initialisation
 abbrev pub IsViolatedBy : Core → CoreBody → Refusal → Type 0

@@ -1,18 +1,19 @@
 -- Cells that tell of the leaves of a body's locals.
-use Rattle.std.specs.Prelude.{◌≡◌, ◌⊎◌, ℕ, true, false, List, [], ◌∷◌, ◌++◌, Contains}
+use Rattle.std.specs.Prelude.{◌≡◌, ◌⊎◌, ℕ, Bool, true, false, List, [], ◌∷◌, ◌++◌, Some, Contains}
 use Rattle.hv_tree.specs.Core.{Core}
 use Rattle.hv_rules.specs.declared.path.StaticPath.{StaticPath}
 use Rattle.hv_rules.specs.declared.event.FlowEvent.{FlowEvent}
 use Rattle.hv_rules.specs.declared.event.FlowEvent.TheVariants as event
 use Rattle.hv_rules.specs.Locals.{CoreBody, locals_of}
 use Rattle.hv_rules.specs.Events.{Mark}
-use Rattle.hv_rules.specs.States.{Leaf, fields_of, is_front}
-use Rattle.hv_rules.specs.Rules.{Trace, leaves_from, back_at}
+use Rattle.hv_rules.specs.States.{Leaf, fields_of, is_front, Filled}
+use Rattle.hv_rules.specs.Rules.{Trace, leaves_from, asks_whole, back_at}
 use Rattle.hv_pass.specs.declared.act.Range.{Range}
 use Rattle.hv_pass.specs.Refused.{covers}
 
--- the cells of the leaves under a local's fields, the cell of each leaf, and one that is no leaf's
+-- which locals have cells, the cells of the leaves under a local's fields, the cell of each leaf, and one that is no leaf's
 pub record Layout : Type 0 where
+  pub tracks : ℕ → Bool
   pub range_of : ℕ → List ℕ → Range
   pub cell_of : Leaf → ℕ
   pub free : ℕ
@@ -56,14 +57,25 @@ IsLeaf tree body leaf = Contains (leaves_from tree (locals_of body) leaf.root) l
 abbrev pub leaf_of : ℕ → List ℕ → Leaf
 leaf_of root fields = record { root = root; fields = fields }
 
+-- the event asks for the local, for all of it or for what is under some fields
+abbrev pub AsksFor : Mark → ℕ → Type 0
+AsksFor m root = ((p : StaticPath) × (asks_whole m.event ≡ Some p) × (p.root ≡ root)) ⊎ Contains (back_at m.belongs) root
+
+-- wherever an event asks for the local, each of its leaves is initialised
+abbrev pub IsFilledWhereAsked : Core → CoreBody → ℕ → Type 0
+IsFilledWhereAsked tree body root =
+    (before : List Mark) (last : Mark) → Trace tree body (before ++ last ∷ []) → AsksFor last root → (leaf : List ℕ) → IsLeaf tree body (leaf_of root leaf) → Filled before (leaf_of root leaf) ≡ true
+
 -- what is asked of the cells, where a local and fields occur; leaves of one local may share a cell
 pub record Fits (tree : Core) (body : CoreBody) (l : Layout) : Type 0 where
-  -- of a local's leaves, those under the fields have their cells in the range
-  pub told : (root : ℕ) (fields : List ℕ) → Occurs tree body root fields → (leaf : List ℕ) → IsLeaf tree body (leaf_of root leaf) → covers (l.range_of root fields) (l.cell_of (leaf_of root leaf)) ≡ is_front fields leaf
+  -- of the leaves of a local that has cells, those under the fields have theirs in the range
+  pub told : (root : ℕ) (fields : List ℕ) → Occurs tree body root fields → l.tracks root ≡ true → (leaf : List ℕ) → IsLeaf tree body (leaf_of root leaf) → covers (l.range_of root fields) (l.cell_of (leaf_of root leaf)) ≡ is_front fields leaf
   -- each cell of the range is that of such a leaf
   pub only : (root : ℕ) (fields : List ℕ) → Occurs tree body root fields → (i : ℕ) → covers (l.range_of root fields) i ≡ true →
-      (leaf : List ℕ) × IsLeaf tree body (leaf_of root leaf) × (is_front fields leaf ≡ true) × (l.cell_of (leaf_of root leaf) ≡ i)
+      (l.tracks root ≡ true) × (leaf : List ℕ) × IsLeaf tree body (leaf_of root leaf) × (is_front fields leaf ≡ true) × (l.cell_of (leaf_of root leaf) ≡ i)
   -- leaves of two locals share none
-  pub apart : (a b : Leaf) → IsLeaf tree body a → IsLeaf tree body b → l.cell_of a ≡ l.cell_of b → a.root ≡ b.root
-  -- and the free one is in no range
+  pub apart : (a b : Leaf) → IsLeaf tree body a → IsLeaf tree body b → l.tracks a.root ≡ true → l.tracks b.root ≡ true → l.cell_of a ≡ l.cell_of b → a.root ≡ b.root
+  -- the free one is in no range
   pub is_free : (root : ℕ) (fields : List ℕ) → Occurs tree body root fields → covers (l.range_of root fields) l.free ≡ false
+  -- and a local without cells needs none
+  pub steady : (root : ℕ) → l.tracks root ≡ false → IsFilledWhereAsked tree body root

@@ -1,5 +1,5 @@
--- The layout that numbers all leaves of all locals one after the other.
-use Rattle.std.specs.Prelude.{ℕ, zero, suc, ◌+◌, List, [], ◌∷◌, Option, Some, None}
+-- The layout that numbers all leaves of the locals that have cells one after the other.
+use Rattle.std.specs.Prelude.{ℕ, zero, suc, ◌+◌, Bool, true, false, if◌then◌else◌, List, [], ◌∷◌, Option, Some, None}
 use Rattle.hv_tree.specs.Core.{Core}
 use Rattle.hv_rules.specs.Types.{ValueType, TypeShape, LeafShape, StructShape, TypeShapes, NoShapes, ShapeOf, shape, most_depth}
 use Rattle.hv_rules.specs.Locals.{Local, CoreBody, locals_of}
@@ -55,10 +55,35 @@ ranges tree n [] root fields = record { from = n; count = 0 }
 ranges tree n (l ∷ ls) zero fields = shifted n (span (shape_by tree l.ty) fields)
 ranges tree n (l ∷ ls) (suc root) fields = ranges tree (n + size (shape_by tree l.ty)) ls root fields
 
+-- ---- the locals that have cells
+
+-- these, in their order
+abbrev pub kept : (ℕ → Bool) → List Local → List Local
+kept tracks [] = []
+kept tracks (l ∷ ls) = if tracks 0 then l ∷ kept (λ k. tracks (suc k)) ls else kept (λ k. tracks (suc k)) ls
+
+-- how many of them come before a local
+abbrev pub kept_before : (ℕ → Bool) → ℕ → ℕ
+kept_before tracks zero = 0
+kept_before tracks (suc n) = if tracks n then suc (kept_before tracks n) else kept_before tracks n
+
+-- the range, or nothing where it begins
+abbrev pub range_if : Bool → Range → Range
+range_if true r = r
+range_if false r = record { from = r.from; count = 0 }
+
+-- the cells of the leaves under a local's fields, where the leaves of those that have cells are in these ranges
+abbrev pub tracked_range : (ℕ → Bool) → (ℕ → List ℕ → Range) → ℕ → List ℕ → Range
+tracked_range tracks range_of root fields = range_if (tracks root) (range_of (kept_before tracks root) fields)
+
+abbrev pub plain_range : Core → CoreBody → (ℕ → Bool) → ℕ → List ℕ → Range
+plain_range tree body tracks = tracked_range tracks (ranges tree 1 (kept tracks (locals_of body)))
+
 -- the first cell is free
-abbrev pub plain : Core → CoreBody → Layout
-plain tree body = record {
-  range_of = ranges tree 1 (locals_of body);
-  cell_of = λ leaf. (ranges tree 1 (locals_of body) leaf.root leaf.fields).from;
+abbrev pub plain : Core → CoreBody → (ℕ → Bool) → Layout
+plain tree body tracks = record {
+  tracks = tracks;
+  range_of = plain_range tree body tracks;
+  cell_of = λ leaf. (plain_range tree body tracks leaf.root leaf.fields).from;
   free = 0;
 }

@@ -17,15 +17,16 @@ abbrev pub ranked : (ℕ → Bool) → Range → Range
 ranked cut r = record { from = rank cut r.from; count = rank cut (r.from + r.count) - rank cut r.from }
 
 -- the plain layout, where the cells between two cuts are one
-abbrev pub merged : Core → CoreBody → (ℕ → Bool) → Layout
-merged tree body cut = record {
-  range_of = λ root fields. ranked cut ((plain tree body).range_of root fields);
-  cell_of = λ leaf. rank cut ((plain tree body).cell_of leaf);
+abbrev pub merged : Core → CoreBody → (ℕ → Bool) → (ℕ → Bool) → Layout
+merged tree body tracks cut = record {
+  tracks = tracks;
+  range_of = λ root fields. ranked cut ((plain tree body tracks).range_of root fields);
+  cell_of = λ leaf. rank cut ((plain tree body tracks).cell_of leaf);
   free = 0;
 }
 
--- there is a cut at both ends of each range that occurs, and at the first cell of each local
-pub record Cuts (tree : Core) (body : CoreBody) (cut : ℕ → Bool) : Type 0 where
-  pub begins : (root : ℕ) (fields : List ℕ) → Occurs tree body root fields → cut ((plain tree body).range_of root fields).from ≡ true
-  pub ends : (root : ℕ) (fields : List ℕ) → Occurs tree body root fields → cut (((plain tree body).range_of root fields).from + ((plain tree body).range_of root fields).count) ≡ true
-  pub locals : (leaf : Leaf) → IsLeaf tree body leaf → cut ((plain tree body).range_of leaf.root []).from ≡ true
+-- of the locals that have cells, there is a cut at both ends of each range that occurs, and at the first cell of each
+pub record Cuts (tree : Core) (body : CoreBody) (tracks cut : ℕ → Bool) : Type 0 where
+  pub begins : (root : ℕ) (fields : List ℕ) → Occurs tree body root fields → tracks root ≡ true → cut ((plain tree body tracks).range_of root fields).from ≡ true
+  pub ends : (root : ℕ) (fields : List ℕ) → Occurs tree body root fields → tracks root ≡ true → cut (((plain tree body tracks).range_of root fields).from + ((plain tree body tracks).range_of root fields).count) ≡ true
+  pub locals : (leaf : Leaf) → IsLeaf tree body leaf → tracks leaf.root ≡ true → cut ((plain tree body tracks).range_of leaf.root []).from ≡ true

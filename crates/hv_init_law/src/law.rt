@@ -1,5 +1,5 @@
 // Laws, which do nothing when they are called.
-ghost use Rattle.std.specs.Prelude.{◌↔◌, ℕ, Bool, Option};
+ghost use Rattle.std.specs.Prelude.{◌≡◌, ◌↔◌, ℕ, Bool, false, Option};
 ghost use Rattle.hv_tree.specs.declared.refusal.Refusal.{Refusal};
 ghost use Rattle.hv_tree.specs.Core.{Core};
 ghost use Rattle.hv_rules.specs.Accepted.{InitPhase, IsViolatedInPhase};
@@ -7,7 +7,7 @@ ghost use Rattle.hv_rules.specs.Earlier.{IsFirst};
 ghost use Rattle.hv_rules.specs.Locals.{CoreBody};
 ghost use Rattle.hv_rules.specs.Sites.{bodies_of};
 ghost use Rattle.hv_pass.specs.Refused.{IsRefused};
-ghost use Rattle.hv_init_law.specs.Layout.{Layout, Fits};
+ghost use Rattle.hv_init_law.specs.Layout.{Layout, Fits, IsFilledWhereAsked};
 ghost use Rattle.hv_init_law.specs.Acts.{acts_of};
 ghost use Rattle.hv_init_law.specs.Plain.{plain};
 ghost use Rattle.hv_init_law.specs.Ranked.{merged, Cuts};
@@ -28,16 +28,16 @@ pub fn first_refusals_are_first_violations()
     ensures { (tree : Core) (body : CoreBody) (l : Layout) → Fits tree body l → (v : Option Refusal) → IsFirst (IsRefused (acts_of tree body l)) v → IsFirst (IsViolatedBy tree body) v }
 {}
 
-/// The layout that numbers all leaves one after the other fits each body of each tree, also where types
-/// or fields are unknown.
+/// The layout that numbers all leaves of the locals that have cells one after the other fits each body of
+/// each tree, also where types or fields are unknown, if the others are filled wherever they are asked for.
 pub fn plain_layouts_fit()
-    ensures { (tree : Core) (body : CoreBody) → Fits tree body (plain tree body) }
+    ensures { (tree : Core) (body : CoreBody) (tracks : ℕ → Bool) → ((root : ℕ) → tracks root ≡ false → IsFilledWhereAsked tree body root) → Fits tree body (plain tree body tracks) }
 {}
 
 /// So does the one in which the leaves between two cuts share a cell, where each range that occurs begins
-/// and ends at a cut, and each local begins at one.
+/// and ends at a cut, and each local that has cells begins at one.
 pub fn merged_layouts_fit()
-    ensures { (tree : Core) (body : CoreBody) (cut : ℕ → Bool) → Cuts tree body cut → Fits tree body (merged tree body cut) }
+    ensures { (tree : Core) (body : CoreBody) (tracks cut : ℕ → Bool) → ((root : ℕ) → tracks root ≡ false → IsFilledWhereAsked tree body root) → Cuts tree body tracks cut → Fits tree body (merged tree body tracks cut) }
 {}
 
 /// The first violation of all bodies is the program's first one of the rules on initialisation.

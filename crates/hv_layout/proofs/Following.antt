@@ -4,8 +4,9 @@ use Rattle.hv_tree.specs.Core.{Core}
 use Rattle.hv_rules.specs.Types.{TypeShape, LeafShape, StructShape}
 use Rattle.hv_rules.specs.Locals.{Local}
 use Rattle.hv_pass.specs.declared.act.Range.{Range}
-use Rattle.hv_init_law.specs.Plain.{size, span, shape_by, ranges}
+use Rattle.hv_init_law.specs.Plain.{size, span, shape_by, ranges, kept_before, range_if, tracked_range}
 use Rattle.hv_init_law.specs.Ranked.{rank, ranked}
+use Rattle.hv_init_law.proofs.Kept.{from_if}
 use Rattle.hv_leaves.specs.declared.sizes.Sizes.{Sizes}
 use Rattle.hv_leaves.specs.declared.leaves.Leaves.{Leaves}
 use Rattle.hv_leaves.specs.Leaves.{range_by, AreSizesOf, AreLeavesOf}
@@ -55,9 +56,18 @@ cut_row cut a b e = let h = rises cut a.from a.count in let f = ap (rank cut) e 
 
 -- ---- the layout
 
-pub laid_follow : (tree : Core) (locals : List Local) (s : Sizes) (l : Leaves) (cuts : List ℕ) → AreSizesOf tree s → AreLeavesOf tree locals l → FollowOneAnother (laid_by (range_by s l) cuts)
-laid_follow tree locals s l cuts hs hl n =
-    cut_row (stands cuts) (range_by s l n []) (range_by s l (suc n) []) (ap (λ (r : Range). r.from + r.count) (same n) ∙ in_a_row tree 1 locals n ∙ sym (ap (λ (r : Range). r.from) (same (suc n))))
+pub laid_follow : (tree : Core) (locals : List Local) (tracks : ℕ → Bool) (s : Sizes) (l : Leaves) (cuts : List ℕ) → AreSizesOf tree s → AreLeavesOf tree locals l → FollowOneAnother (laid_by tracks (range_by s l) cuts)
+laid_follow tree locals tracks s l cuts hs hl n =
+    cut_row (stands cuts) (tracked_range tracks (range_by s l) n []) (tracked_range tracks (range_by s l) (suc n) [])
+    (by (tracks n) (kept_before tracks n) ∙ sym (from_if (tracks (suc n)) (range_by s l (kept_before tracks (suc n)) [])))
   where
-    same : (root : ℕ) → range_by s l root [] ≡ ranges tree 1 locals root []
-    same root = range_is tree locals s l hs hl root []
+    same : (at : ℕ) → range_by s l at [] ≡ ranges tree 1 locals at []
+    same at = range_is tree locals s l hs hl at []
+
+    -- a local without cells ends where it begins
+    by : (b : Bool) (at : ℕ) → (range_if b (range_by s l at [])).from + (range_if b (range_by s l at [])).count ≡ (range_by s l (if b then suc at else at) []).from
+    by true at = ap (λ (r : Range). r.from + r.count) (same at) ∙ in_a_row tree 1 locals at ∙ sym (ap (λ (r : Range). r.from) (same (suc at)))
+    by false at = nothing (range_by s l at []).from
+      where
+        nothing : (k : ℕ) → k + 0 ≡ k
+        nothing k = omega arith

@@ -1,3 +1,5 @@
+-- the locals that have cells
+pub mod Tracking
 -- ascending positions
 pub mod CutLemmas
 -- what occurs in a body has its ends among the positions

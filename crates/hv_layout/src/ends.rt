@@ -1,7 +1,9 @@
 // Where the leaves under each path of a plan begin and end.
 ghost use Rattle.std.specs.Prelude.{◌≡◌, ◌++◌, ◌+◌, IfOk, OnOk};
 ghost use Rattle.hv_layout.specs.Ends as spec;
+ghost use Rattle.hv_layout.specs.Tracked.{flag_at};
 
+use crate::tracked::Tracked;
 use hv_items::Items;
 use hv_leaves::{Leaves, Sizes};
 use hv_pass::Range;
@@ -27,11 +29,16 @@ fn push_path(
     positions: &mut Items<u32>,
     sizes: &Sizes,
     leaves: &Leaves,
+    tracked: &Tracked,
     path: &StaticPath,
 ) -> Result<(), NoMemory>
-    ensures { OnOk result (positions.new ≡ positions.old ++ spec.path_ends sizes.now leaves.now path.now) }
+    ensures { OnOk result (positions.new ≡ positions.old ++ spec.path_ends sizes.now leaves.now (flag_at tracked.now) path.now) }
 {
-    let range = leaves.range(sizes, path.root, path.steps.as_slice())?;
+    if !tracked.is_tracked(path.root) {
+        return Ok(());
+    }
+    let local = tracked.before(path.root);
+    let range = leaves.range(sizes, local, path.steps.as_slice())?;
     push_ends(positions, range)
 }
 
@@ -39,9 +46,10 @@ fn push_event(
     positions: &mut Items<u32>,
     sizes: &Sizes,
     leaves: &Leaves,
+    tracked: &Tracked,
     event: &FlowEvent,
 ) -> Result<(), NoMemory>
-    ensures { OnOk result (positions.new ≡ positions.old ++ spec.event_ends sizes.now leaves.now event.now) }
+    ensures { OnOk result (positions.new ≡ positions.old ++ spec.event_ends sizes.now leaves.now (flag_at tracked.now) event.now) }
 {
     match event {
         FlowEvent::Init(path)
@@ -49,7 +57,7 @@ fn push_event(
         | FlowEvent::Move(path)
         | FlowEvent::OpenRead(path)
         | FlowEvent::OpenWrite(path)
-        | FlowEvent::OpenSet(path) => push_path(positions, sizes, leaves, path),
+        | FlowEvent::OpenSet(path) => push_path(positions, sizes, leaves, tracked, path),
         _ => Ok(()),
     }
 }
@@ -58,13 +66,14 @@ fn push_word(
     positions: &mut Items<u32>,
     sizes: &Sizes,
     leaves: &Leaves,
+    tracked: &Tracked,
     word: &FlowOp,
 ) -> Result<(), NoMemory>
-    ensures { OnOk result (positions.new ≡ positions.old ++ spec.word_ends sizes.now leaves.now word.now) }
+    ensures { OnOk result (positions.new ≡ positions.old ++ spec.word_ends sizes.now leaves.now (flag_at tracked.now) word.now) }
 {
     match word {
         FlowOp::Do(event, _) | FlowOp::Stop(event, _) => {
-            push_event(positions, sizes, leaves, event)
+            push_event(positions, sizes, leaves, tracked, event)
         }
         FlowOp::Skip | FlowOp::Then | FlowOp::Either | FlowOp::Loop => Ok(()),
     }
@@ -74,12 +83,13 @@ fn push_plan(
     positions: &mut Items<u32>,
     sizes: &Sizes,
     leaves: &Leaves,
+    tracked: &Tracked,
     plan: &[FlowOp],
 ) -> Result<(), NoMemory>
-    ensures { OnOk result (positions.new ≡ positions.old ++ spec.plan_ends sizes.now leaves.now plan.now) }
+    ensures { OnOk result (positions.new ≡ positions.old ++ spec.plan_ends sizes.now leaves.now (flag_at tracked.now) plan.now) }
 {
     for word in plan {
-        push_word(positions, sizes, leaves, word)?;
+        push_word(positions, sizes, leaves, tracked, word)?;
     }
     Ok(())
 }
@@ -99,19 +109,20 @@ fn push_locals(
     Ok(())
 }
 
-/// Those of so many locals, of what is behind them, and of a plan.
+/// Those of so many locals that have cells, of what is behind them, and of a plan.
 pub fn all_ends(
     alloc: Global,
     sizes: &Sizes,
     leaves: &Leaves,
+    tracked: &Tracked,
     locals: u32,
     plan: &[FlowOp],
 ) -> Result<Items<u32>, NoMemory>
-    ensures { IfOk result (λ positions. positions ≡ spec.all_ends sizes.now leaves.now locals plan.now) }
+    ensures { IfOk result (λ positions. positions ≡ spec.all_ends sizes.now leaves.now (flag_at tracked.now) locals plan.now) }
 {
     let mut positions = Items::new(alloc);
     let count = sum(locals, 1)?;
     push_locals(&mut positions, sizes, leaves, count)?;
-    push_plan(&mut positions, sizes, leaves, plan)?;
+    push_plan(&mut positions, sizes, leaves, tracked, plan)?;
     Ok(positions)
 }

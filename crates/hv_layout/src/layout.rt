@@ -5,24 +5,30 @@ ghost use Rattle.hv_rules.specs.States.{fields_of};
 ghost use Rattle.hv_scope.specs.Bodies.{body_by};
 ghost use Rattle.hv_plan.specs.Spelling.{plan_of_body};
 ghost use Rattle.hv_init_law.specs.Layout.{Fits};
-ghost use Rattle.hv_leaves.specs.Leaves.{AreSizesOf};
+ghost use Rattle.hv_init_law.specs.Plain.{tracked_range};
+ghost use Rattle.hv_leaves.specs.Leaves.{AreSizesOf, range_by};
 ghost use Rattle.hv_layout.specs.Laid.{laid};
+ghost use Rattle.hv_layout.specs.Tracked.{flag_at};
 ghost use Rattle.hv_layout.specs.Spans.{FollowOneAnother, span_of};
 
 use crate::cuts::{Cuts, number};
 use crate::ends::{all_ends, sum};
+use crate::tracked::{Tracked, kept_locals};
 use hv_leaves::{Leaves, Sizes};
 use hv_pass::Range;
 use hv_plan::FlowOp;
 use hv_rules::{StaticPath, StaticStep};
 use hv_scope::{Body, Declared, body_locals};
+use hv_steady::locals_with_state;
 use std::alloc::{AllocError as NoMemory, Global};
 
-/// Which cells the leaves of a body's locals have. Cell 0 is that of no leaf. There is a cell more only
-/// where a local begins, or where the leaves under a path of the plan begin or end.
+/// Which cells the leaves of a body's locals have. Cell 0 is that of no leaf. A local whose declaration fills
+/// it and which no event empties has none. There is a cell more only where another one begins, or where the
+/// leaves under a path of the plan begin or end.
 #[derive(Drop)]
 pub struct Layout<'s> {
     sizes: &'s Sizes,
+    tracked: Tracked,
     leaves: Leaves,
     cuts: Cuts,
 }
@@ -40,21 +46,40 @@ impl<'s> Layout<'s> {
         ensures follow { IfOk result (λ l. AreSizesOf (core_tree declared.now) sizes.now → FollowOneAnother (laid l)) }
     {
         let locals = body_locals(alloc, body)?;
-        let leaves = Leaves::of(alloc, declared, sizes, locals.as_slice())?;
-        let count = number(locals.as_slice().len())?;
-        let positions = all_ends(alloc, sizes, &leaves, count, plan)?;
+        let flags = locals_with_state(alloc, plan, locals.as_slice().len())?;
+        let kept = kept_locals(alloc, locals.as_slice(), flags.as_slice())?;
+        let leaves = Leaves::of(alloc, declared, sizes, kept.as_slice())?;
+        let tracked = Tracked::of(alloc, flags)?;
+        let count = number(kept.len())?;
+        let positions = all_ends(alloc, sizes, &leaves, &tracked, count, plan)?;
         let cuts = Cuts::of(alloc, positions)?;
         Ok(Layout {
             sizes,
+            tracked,
             leaves,
             cuts,
         })
     }
 
+    // The leaves under a local's fields, none where it has no cells.
+    fn range(&self, root: u32, steps: &[StaticStep]) -> Result<Range, NoMemory>
+        ensures { IfOk result (λ r. r ≡ tracked_range (flag_at self.now.tracked) (range_by self.now.sizes.now self.now.leaves) root (fields_of steps.now)) }
+    {
+        let Range { from, count } = self
+            .leaves
+            .range(self.sizes, self.tracked.before(root), steps)?;
+        let count = if self.tracked.is_tracked(root) {
+            count
+        } else {
+            0
+        };
+        Ok(Range { from, count })
+    }
+
     fn cells(&self, root: u32, steps: &[StaticStep]) -> Result<Range, NoMemory>
         ensures { IfOk result (λ r. r ≡ (laid self.now).range_of root (fields_of steps.now)) }
     {
-        let range = self.leaves.range(self.sizes, root, steps)?;
+        let range = self.range(root, steps)?;
         self.cuts.ranked(range)
     }
 

@@ -6,5 +6,6 @@ mod ends;
 mod layout;
 #[cfg(test)]
 mod tests;
+mod tracked;
 
 pub use layout::Layout;

@@ -29,9 +29,9 @@ fn four(alloc: Global) -> Result<Decl, NoMemory> {
     build::decl_struct(alloc, build::struct_decl(alloc, name(alloc, "P")?, fields)?)
 }
 
-fn param(alloc: Global, text: &str) -> Result<Param, NoMemory> {
+fn param(alloc: Global, text: &str, conv: Conv) -> Result<Param, NoMemory> {
     let ty = build::ty_named(alloc, name(alloc, "P")?)?;
-    build::param(alloc, name(alloc, text)?, Conv::Let, ty)
+    build::param(alloc, name(alloc, text)?, conv, ty)
 }
 
 // `{ print(p.b) }`
@@ -45,11 +45,12 @@ fn body(alloc: Global) -> Result<Block, NoMemory> {
     build::block(alloc, stmts, AT)
 }
 
-// The struct and `fun f(p: P, q: P) { print(p.b) }`.
+// The struct and `fun f(p: set P, r: P, q: set P) { print(p.b) }`.
 fn program(alloc: Global) -> Result<Tree, NoMemory> {
     let mut params = Vec::new(alloc);
-    params.push(param(alloc, "p")?)?;
-    params.push(param(alloc, "q")?)?;
+    params.push(param(alloc, "p", Conv::Set)?)?;
+    params.push(param(alloc, "r", Conv::Let)?)?;
+    params.push(param(alloc, "q", Conv::Set)?)?;
     let f = build::fun_decl(alloc, name(alloc, "f")?, params, None, body(alloc)?)?;
     let mut decls = Vec::new(alloc);
     decls.push(four(alloc)?)?;
@@ -77,20 +78,23 @@ fn layout_of<'s>(
     Layout::of(alloc, declared, sizes, body, plan.as_slice())
 }
 
-// The cells of `p`, `p.a`, `p.b`, `q`, and of both locals.
-fn found(alloc: Global, layout: &Layout<'_>) -> Result<[Range; 5], NoMemory> {
+// The cells of `p`, `p.a`, `p.b`, `r`, `r.b`, `q`, and of all locals.
+fn found(alloc: Global, layout: &Layout<'_>) -> Result<[Range; 7], NoMemory> {
     let a = path(alloc, 0, 0)?;
     let b = path(alloc, 0, 1)?;
+    let none = path(alloc, 1, 1)?;
     Ok([
         layout.local_cells(0)?,
         layout.path_cells(&a)?,
         layout.path_cells(&b)?,
         layout.local_cells(1)?,
-        layout.span_cells(0, 2)?,
+        layout.path_cells(&none)?,
+        layout.local_cells(2)?,
+        layout.span_cells(0, 3)?,
     ])
 }
 
-// The leaves of `p` are parted around `p.b`, those of `q` nowhere.
+// The leaves of `p` are parted around `p.b`, those of `q` nowhere; `r` has its value all the time.
 #[test]
 fn leaves_that_no_event_parts_share_a_cell(rt: HostRuntime) -> Result<(), Fail> {
     let alloc = rt.alloc();
@@ -103,6 +107,8 @@ fn leaves_that_no_event_parts_share_a_cell(rt: HostRuntime) -> Result<(), Fail> 
         cells(1, 3),
         cells(1, 1),
         cells(2, 1),
+        cells(4, 0),
+        cells(4, 0),
         cells(4, 1),
         cells(1, 4),
     ];
