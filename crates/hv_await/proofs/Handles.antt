@@ -13,7 +13,7 @@ use Rattle.hv_rules.specs.Locals.{CoreBody}
 use Rattle.hv_rules.specs.Events.{Belongs, Mark, Events, body_events}
 use Rattle.hv_rules.specs.States.{HandleState, NotSpawned, Spawned, Awaited, State, start, after_event, after, state_after}
 use Rattle.hv_rules.specs.Rules.{handles_at, IsViolatedIn}
-use Rattle.hv_names.proofs.Members.{listed, contained}
+use Rattle.hv_lemmas.proofs.Members.{listed, contained}
 use Rattle.hv_pass.specs.declared.act.Act.{Act}
 use Rattle.hv_pass.specs.Refused.{Values, after_acts, Refuses, IsRefused}
 use Rattle.hv_pass.specs.Refused as pass

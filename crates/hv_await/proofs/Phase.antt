@@ -12,7 +12,7 @@ use Rattle.hv_rules.specs.Sites.{bodies_of}
 use Rattle.hv_rules.specs.Rules.{in_body, at_task}
 use Rattle.hv_rules.specs.TypeRules.{at_part, at_struct}
 use Rattle.hv_rules.specs.Accepted.{HandlePhase, phase_of, IsViolated, IsViolatedInPhase}
-use Rattle.hv_names.proofs.Members.{Among, in_left, in_right, either_in, listed, contained}
+use Rattle.hv_lemmas.proofs.Members.{Among, in_left, in_right, either_in, listed, contained}
 use Rattle.hv_names.proofs.Firsts.{through}
 use Rattle.hv_pass.proofs.Firsts.{same_first}
 use Rattle.hv_await.specs.Acts.{refusal}

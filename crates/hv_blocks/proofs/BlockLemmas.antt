@@ -15,7 +15,7 @@ use Rattle.hv_tree.specs.declared.ast.StmtKind.{StmtKind, out-StmtKind}
 use Rattle.hv_tree.specs.declared.ast.Arg.TheOpen.{StmtKind-F}
 use Rattle.hv_tree.specs.Core.{core_stmt, core_stmts, core_stmt_kind}
 use Rattle.hv_tree.proofs.CoreLemmas as lemmas
-use Rattle.hv_scope.proofs.Firsts.{first_left}
+use Rattle.hv_lemmas.proofs.Lists.{first_left}
 use Rattle.hv_value.specs.ValueTree.{ValueTree}
 use Rattle.hv_copying.specs.Run.{Res, Is, Now, Flow, ◌>>=◌, pure, pay}
 use Rattle.hv_copying.specs.Blocks.{first_token}

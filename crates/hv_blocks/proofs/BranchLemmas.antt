@@ -4,7 +4,7 @@ use Rattle.hv_tree.specs.declared.ast.Block.{Block}
 use Rattle.hv_tree.specs.declared.ast.Branch.{Branch, out-Branch}
 use Rattle.hv_tree.specs.Core.{CoreBranches, core_branches}
 use Rattle.hv_tree.proofs.CoreLemmas as lemmas
-use Rattle.hv_scope.proofs.Firsts.{first_left}
+use Rattle.hv_lemmas.proofs.Lists.{first_left}
 use Rattle.hv_copying.specs.Run.{Res, Is, Now, Flow, ◌>>=◌, pure}
 use Rattle.hv_copying.specs.Copying.{Locals}
 use Rattle.hv_flat.specs.Accesses.{Plain}

@@ -27,7 +27,7 @@ use Rattle.hv_flat.specs.Flat as flat
 use Rattle.hv_state.specs.declared.task.Task.{Task}
 use Rattle.hv_state.specs.declared.task.Halt.{Halt}
 use Rattle.hv_state.specs.Gives.{now_of, from, halted}
-use Rattle.hv_scope.proofs.Firsts.{first_left}
+use Rattle.hv_lemmas.proofs.Lists.{first_left}
 use Rattle.hv_level.specs.declared.level.Level.{Level}
 use Rattle.hv_level.specs.Level.{tree_in, locals_in, deeper_in}
 use Rattle.hv_calls.specs.Arguments.{Sofar, taken_one}

@@ -29,7 +29,7 @@ use Rattle.hv_state.specs.declared.task.Halt.{Halt}
 use Rattle.hv_state.specs.Gives.{now_of, from, halted}
 use Rattle.hv_scope.specs.declared.bodies.Body.{Body}
 use Rattle.hv_scope.specs.Bodies.{body_by}
-use Rattle.hv_scope.proofs.Firsts.{first_left}
+use Rattle.hv_lemmas.proofs.Lists.{first_left}
 use Rattle.hv_level.specs.declared.level.Level.{Level}
 use Rattle.hv_level.specs.Level.{tree_in, locals_in, deeper_in, value_in}
 use Rattle.hv_calls.specs.declared.passed.Passed.{Passed}

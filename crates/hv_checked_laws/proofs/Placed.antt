@@ -10,7 +10,7 @@ use Rattle.hv_tree.specs.Core.{core_tree}
 use Rattle.hv_token.specs.Lexes.{Lexes}
 use Rattle.hv_parse.specs.Answers.{IsRefused, unexpected, unfinished, too_deep, lexical, refused}
 use Rattle.hv_rules.specs.Accepted.{Phase, IsViolated, IsFirstOf}
-use Rattle.hv_judge.proofs.Members.{in_right, contained}
+use Rattle.hv_lemmas.proofs.Members.{in_right, contained}
 use Rattle.hv_check.specs.Checks.{IsRead, IsFirst, unread, judged, judged_phases}
 use Rattle.hv_lexed_places.specs.Inside.{LiesIn}
 use Rattle.hv_lexed_places.proofs.Begins.{tokens_begin, stop_lies}

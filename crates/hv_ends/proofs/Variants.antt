@@ -16,7 +16,7 @@ use Rattle.hv_rules.specs.Locals.{binds, declared_in, in_block, in_stmts}
 use Rattle.hv_rules.specs.Events.{Belongs, if_kind, is_written_back, is_handle}
 use Rattle.hv_scope.specs.Blocks.{tests_declare, else_declares}
 use Rattle.hv_scope.proofs.LocalLemmas as locals
-use Rattle.hv_scope.proofs.Firsts.{first_left}
+use Rattle.hv_lemmas.proofs.Lists.{first_left}
 use Rattle.hv_ends.specs.declared.walk.Opened.{Opened}
 use Rattle.hv_ends.specs.Walked as spec
 

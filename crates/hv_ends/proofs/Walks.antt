@@ -8,8 +8,7 @@ use Rattle.hv_tree.proofs.CoreLemmas as lemmas
 use Rattle.hv_rules.specs.Locals.{Local, CoreBody, entry_locals}
 use Rattle.hv_rules.specs.Events.{Belongs, ToEnd, kind_from, is_written_back, has_some, stmts_in}
 use Rattle.std.proofs.lemmas.List.{map-append}
-use Rattle.hv_scope.proofs.Firsts.{first_left}
-use Rattle.hv_scope.proofs.Added.{extended}
+use Rattle.hv_lemmas.proofs.Lists.{first_left, extended}
 use Rattle.hv_ends.specs.declared.span.Span.{Span}
 use Rattle.hv_ends.specs.declared.span.End.{End}
 use Rattle.hv_ends.specs.declared.walk.Opened.{Opened}

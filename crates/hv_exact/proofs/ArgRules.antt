@@ -7,7 +7,7 @@ use Rattle.hv_tree.specs.declared.ast.PlaceExpr.{PlaceExpr}
 use Rattle.hv_tree.specs.declared.ast.Step.{Step}
 use Rattle.hv_tree.specs.declared.ast.Arg.{Arg}
 use Rattle.hv_tree.specs.declared.ast.Arg.TheVariants as variant
-use Rattle.hv_tree.specs.Tokens.{Tokens, mark, word, Separated, one_part, more_parts, Ors}
+use Rattle.hv_tree.specs.Tokens.{Tokens, mark, word, Separated, one_part, more_parts, Ors, Ands, Comparisons, Sums, Products}
 use Rattle.hv_tree.specs.Grammar.{path_of, IsLevel, AreSteps, AreArgs, AreSomeArgs, IsArg, none_args, some_args, one_arg, more_arg, value_argument, ref_argument}
 use Rattle.hv_tree.specs.Refusal.{is_mark}
 use Rattle.hv_grammar.specs.Expressions.{Inner, argument, arguments, begins_step, begins_arg}
@@ -18,7 +18,6 @@ use Rattle.hv_exact.proofs.Shorts.{on_at, empty_stops, begins_more, stops_left, 
 use Rattle.hv_exact.proofs.Between.{Mapped, mapped_exact, mapped_parts, mapped_by}
 use Rattle.hv_exact.proofs.Beginnings.{arg_begins, expr_off}
 use Rattle.hv_grammar.specs.Levels.{is_infix}
-use Rattle.hv_tree.specs.Tokens.{Ands, Comparisons, Sums, Products}
 use Rattle.hv_exact.proofs.Separated.{separated_exact}
 
 -- ---- places

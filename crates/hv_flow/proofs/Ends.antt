@@ -1,15 +1,13 @@
 -- Full walks and whole traces.
 use Rattle.std.proofs.Common.{◌≡◌, ◌⊎◌, inl, inr, ℕ, zero, suc, ◌+◌, true, false, List, [], ◌∷◌, ◌++◌, length, map, refl, sym, ◌∙◌, ap, subst, arith}
-use Rattle.hv_flow.specs.Acts.{Act}
+use Rattle.hv_flow.specs.Acts.{Act, act_of, acts_of}
 use Rattle.hv_flow.specs.declared.nodes.Node.{Node}
-use Rattle.hv_rules.specs.Flow.{Flow, Skip, Do, Stop, Then, Either, Loop, IsWhole}
+use Rattle.hv_rules.specs.Flow.{Flow, Skip, Do, Stop, Then, Either, Loop, IsWhole, IsTrace}
 use Rattle.hv_flow.specs.Positions.{places, is_empty, At, First, Last, Final, Next, Path, here, step}
 use Rattle.hv_flow.specs.Graphs.{node_of, extend_at, linked, built, next_of, Among, ActAt}
 use Rattle.hv_tree.specs.declared.place.Place.{Place}
 use Rattle.hv_rules.specs.Events.{Mark, Events}
-use Rattle.hv_rules.specs.Flow.{IsTrace}
 use Rattle.hv_plan.specs.declared.plan.FlowOp.{FlowOp}
-use Rattle.hv_flow.specs.Acts.{act_of, acts_of}
 use Rattle.hv_plan.specs.Spelling.{entered, plan_of}
 use Rattle.hv_flow.specs.Reading.{read_all}
 use Rattle.hv_flow.specs.Walks.{Walk, IsFullWalk, EndsAlone, entry, Traces, IsGraph}

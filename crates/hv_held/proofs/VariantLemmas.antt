@@ -6,12 +6,11 @@ use Rattle.hv_held.specs.declared.tree.Held.TheViews.{the_lemmas}
 use Rattle.hv_held.specs.declared.tree.Held.TheVariants as held
 use Rattle.hv_held.specs.declared.tree.Held.TheFolds.{fold_out-Held}
 use Rattle.hv_value.specs.declared.value.PathStep.TheVariants.{Field, At}
-use Rattle.hv_value.specs.ValueTree.{ValueTree, Hole, Number, Truth, Fields, Elements, Closure}
+use Rattle.hv_value.specs.ValueTree.{ValueTree, Hole, Number, Truth, Fields, Elements, Closure, row}
 use Rattle.hv_held.specs.HeldTree.{held_tree, held_trees, held_step}
 use Rattle.hv_value.specs.Places.{change_nth, change_part}
 use Rattle.hv_value.specs.Holes.{emptied, fields_or_hole, all_emptied}
 use Rattle.hv_value.specs.Operators.{length_of, copies}
-use Rattle.hv_value.specs.ValueTree.{row}
 use Rattle.hv_held.proofs.ListLemmas.{count_row, copies_row, all_emptied_row}
 
 opened_hole : out-Held held.Hole ≡ Held-F.Hole

@@ -7,7 +7,7 @@ use Rattle.hv_rules.specs.Flow.{Flow, Skip, Do, Stop, Then, Either, Loop}
 use Rattle.hv_rules.specs.Events.{Belongs}
 use Rattle.hv_rules.specs.States.{Access}
 use Rattle.hv_rules.specs.Rules.{asks_whole, back_at, missing_at}
-use Rattle.hv_names.proofs.Members.{listed, contained}
+use Rattle.hv_lemmas.proofs.Members.{listed, contained}
 use Rattle.hv_pass.specs.declared.act.Act.{Act}
 use Rattle.hv_pass.specs.Refused.{Values, start, after_acts, acts_in, IsRefused}
 use Rattle.hv_ends.specs.declared.span.Span.{Span}

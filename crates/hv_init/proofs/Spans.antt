@@ -4,7 +4,7 @@ use Rattle.std.proofs.lemmas.Bool.{cases_lt}
 use Rattle.hv_tree.specs.declared.place.Place.{Place}
 use Rattle.hv_tree.specs.declared.refusal.Refusal.{Refusal}
 use Rattle.hv_tree.specs.declared.refusal.Rule.TheVariants as rule
-use Rattle.hv_names.proofs.Members.{Among, in_left, in_right, either_in}
+use Rattle.hv_lemmas.proofs.Members.{Among, in_left, in_right, either_in}
 use Rattle.hv_pass.specs.Refused.{Values, covers, after_acts}
 use Rattle.hv_ends.specs.declared.span.Span.{Span}
 use Rattle.hv_ends.specs.Ends.{numbers_from, numbers_in}

@@ -4,7 +4,7 @@ use Rattle.hv_tree.specs.Core.{Core}
 use Rattle.hv_rules.specs.Types.{ValueType, IntType, BoolType, StructType, ArrayType, FunType, FunToType, LeafShape, StructShape, TypeShapes, NoShapes, shapes_of, shape, leaves, below_fields, or_itself, field_types, most_depth}
 use Rattle.hv_rules.specs.Locals.{Local}
 use Rattle.hv_rules.specs.Rules.{leaves_by, leaves_from}
-use Rattle.hv_names.proofs.Members.{Among, in_left, in_right, either_in}
+use Rattle.hv_lemmas.proofs.Members.{Among, in_left, in_right, either_in}
 use Rattle.hv_init_law.specs.Plain.{shape_by}
 use Rattle.hv_init_law.proofs.Shapes.{LeafOf, LeafAt}
 

@@ -11,7 +11,7 @@ use Rattle.hv_rules.specs.Earlier.{IsFirst}
 use Rattle.hv_rules.specs.Rules.{IsViolatedIn, in_body, at_task}
 use Rattle.hv_rules.specs.TypeRules.{at_part, at_struct}
 use Rattle.hv_rules.specs.Accepted.{InitPhase, phase_of, IsViolated, IsViolatedInPhase}
-use Rattle.hv_names.proofs.Members.{Among, listed, contained}
+use Rattle.hv_lemmas.proofs.Members.{Among, listed, contained}
 use Rattle.hv_pass.proofs.Firsts.{same_first}
 use Rattle.hv_init_law.specs.Law.{IsViolatedBy, IsViolatedAmong}
 

@@ -5,7 +5,7 @@ use Rattle.hv_rules.specs.Types.{TypeShape, LeafShape, StructShape}
 use Rattle.hv_rules.specs.Locals.{Local, CoreBody, locals_of}
 use Rattle.hv_rules.specs.States.{Leaf, is_front}
 use Rattle.hv_rules.specs.Rules.{leaves_from}
-use Rattle.hv_names.proofs.Members.{listed}
+use Rattle.hv_lemmas.proofs.Members.{listed}
 use Rattle.hv_pass.specs.declared.act.Range.{Range}
 use Rattle.hv_pass.specs.Refused.{covers}
 use Rattle.hv_init_law.specs.Layout.{Occurs, IsLeaf, leaf_of, IsFilledWhereAsked, Fits}

@@ -14,7 +14,7 @@ use Rattle.hv_rules.specs.Events.{Mark}
 use Rattle.hv_rules.specs.States.{fields_of, has_index, Mode, Reading, Writing, Setting, Access, last_called, Filled, Open, state_after}
 use Rattle.hv_rules.specs.Rules.{Trace, asks_whole, back_at, missing_at, HasHole, Violates}
 use Rattle.hv_rules.specs.Accepted.{InitPhase, phase_of}
-use Rattle.hv_names.proofs.Members.{Among, listed, contained}
+use Rattle.hv_lemmas.proofs.Members.{Among, listed, contained}
 use Rattle.hv_pass.specs.declared.act.Act.{Act}
 use Rattle.hv_pass.specs.declared.act.Act.TheVariants as act
 use Rattle.hv_pass.specs.Refused.{Values, covers, after_acts, IsRefused}

@@ -21,7 +21,7 @@ use Rattle.hv_tree.specs.Core.{CoreArgs, NoArgs, ValueArg, RefArg, core_of, core
 use Rattle.hv_tree.proofs.CoreLemmas as lemmas
 use Rattle.hv_rules.specs.TypeRules.{expr_place}
 use Rattle.hv_rules.specs.Typing.{Wanted}
-use Rattle.hv_scope.proofs.Firsts.{first_left}
+use Rattle.hv_lemmas.proofs.Lists.{first_left}
 use Rattle.hv_typing.specs.declared.around.Around.{Around}
 use Rattle.hv_typing.specs.Here as here
 use Rattle.hv_typing.specs.Tests as tests

@@ -4,7 +4,7 @@ use Rattle.hv_tree.specs.declared.place.Place.{Place}
 use Rattle.hv_tree.specs.declared.refusal.Rule.{Rule}
 use Rattle.hv_tree.specs.declared.refusal.Refusal.{Refusal}
 use Rattle.hv_judge.specs.Judged.{refusal, only}
-use Rattle.hv_judge.proofs.Members.{Among, in_left, in_right, either_in}
+use Rattle.hv_lemmas.proofs.Members.{Among, in_left, in_right, either_in}
 
 -- each refusal of the list is of this rule and at a place where it is violated, and each such place has one
 pub record Exact (xs : List Refusal) (k : Rule) (V : Place → Type 0) : Type 0 where

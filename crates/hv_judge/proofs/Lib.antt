@@ -1,4 +1,3 @@
-pub mod Members
 pub mod Exact
 pub mod Deciding
 pub mod TypeRule
@@ -6,7 +5,6 @@ pub mod OtherRules
 pub mod Sound
 pub mod Whole
 pub mod Program
-pub mod Added
 pub mod Places
 pub mod Steps
 pub mod Wanted

@@ -14,7 +14,7 @@ use Rattle.hv_rules.specs.TypeRules.{ViolatesType, IsViolatedByTypes, at_part, a
 use Rattle.hv_rules.specs.Rules.{IsViolatedByEvents, in_body, at_task}
 use Rattle.hv_rules.specs.Accepted.{NamePhase, TypePhase, phase_of, IsViolated, IsViolatedInPhase, IsFirstOf}
 use Rattle.hv_judge.specs.Judged as spec
-use Rattle.hv_judge.proofs.Members.{Among, in_left, in_right, either_in, listed, contained}
+use Rattle.hv_lemmas.proofs.Members.{Among, in_left, in_right, either_in, listed, contained}
 use Rattle.hv_judge.proofs.Exact.{Exact, none, one, both}
 use Rattle.hv_judge.proofs.Deciding.{Holding, either}
 use Rattle.hv_judge.proofs.Sound.{sound}

@@ -13,7 +13,7 @@ use Rattle.hv_rules.specs.Typing.{Signature, signature_of, operand_type, first_t
 use Rattle.hv_rules.specs.TypeRules as rules
 use Rattle.hv_typing.specs.Tests.{no_array, other}
 use Rattle.hv_judge.specs.Judged as spec
-use Rattle.hv_judge.proofs.Members.{Among, in_left, in_right, either_in}
+use Rattle.hv_lemmas.proofs.Members.{Among, in_left, in_right, either_in}
 use Rattle.hv_judge.proofs.Exact.{Exact, none, one, both, asked}
 use Rattle.hv_judge.proofs.Deciding.{Holding, there}
 use Rattle.hv_judge.proofs.TypeRule as t1

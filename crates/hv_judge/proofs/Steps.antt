@@ -20,7 +20,7 @@ use Rattle.hv_tree.specs.Core.{CoreSteps, NoSteps, FieldStep, IndexStep, core_of
 use Rattle.hv_tree.proofs.CoreLemmas as lemmas
 use Rattle.hv_rules.specs.Types.{ValueType, IntType}
 use Rattle.hv_rules.specs.Events.{type_behind}
-use Rattle.hv_scope.proofs.Firsts.{first_left}
+use Rattle.hv_lemmas.proofs.Lists.{first_left}
 use Rattle.hv_typing.specs.declared.around.Around.{Around}
 use Rattle.hv_typing.specs.Here as here
 use Rattle.hv_typing.specs.Tests as tests

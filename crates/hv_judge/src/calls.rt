@@ -11,7 +11,7 @@ use hv_tree::{Arg, Call, Conv, Place, Refusal, Rule, Ty};
 use hv_typing::{Around, Base, Signature, Wants, next_wanted, other, place_type, signature_of};
 use std::alloc::AllocError as NoMemory;
 
-#[tactic(auto, using(crate::proofs::Args::no_value, crate::proofs::Args::value_type, crate::proofs::Args::lent_type, crate::proofs::Added::nothing))]
+#[tactic(auto, using(crate::proofs::Args::no_value, crate::proofs::Args::value_type, crate::proofs::Args::lent_type, hv_lemmas::proofs::Lists::nothing))]
 fn check_value<'t>(
     around: &Around<'_, 't>,
     found: &mut Vec<Refusal>,
@@ -51,7 +51,7 @@ fn check_values<'t>(
     Ok(())
 }
 
-#[tactic(auto, using(crate::proofs::Args::no_mark, crate::proofs::Args::value_mark, crate::proofs::Args::lent_mark, crate::proofs::Added::nothing))]
+#[tactic(auto, using(crate::proofs::Args::no_mark, crate::proofs::Args::value_mark, crate::proofs::Args::lent_mark, hv_lemmas::proofs::Lists::nothing))]
 fn check_mark<'t>(
     around: &Around<'_, 't>,
     found: &mut Vec<Refusal>,
@@ -86,7 +86,7 @@ fn check_marks<'t>(
     Ok(())
 }
 
-#[tactic(auto, using(crate::proofs::Args::value_root, crate::proofs::Args::lent_root, crate::proofs::Added::nothing))]
+#[tactic(auto, using(crate::proofs::Args::value_root, crate::proofs::Args::lent_root, hv_lemmas::proofs::Lists::nothing))]
 fn check_lent(around: &Around<'_, '_>, found: &mut Vec<Refusal>, arg: &Arg) -> Result<(), NoMemory>
     ensures { OnOk result (found.new.items ≡ found.old.items ++ seen.this_t6 around.now arg.now) }
 {
@@ -120,7 +120,7 @@ fn moves(wanted: Option<(Option<Conv>, &Ty, Wants<'_>)>) -> bool
     }
 }
 
-#[tactic(auto, using(crate::proofs::Args::value_moved, crate::proofs::Args::value_kept, crate::proofs::Args::lent_changed, crate::proofs::Added::nothing))]
+#[tactic(auto, using(crate::proofs::Args::value_moved, crate::proofs::Args::value_kept, crate::proofs::Args::lent_changed, hv_lemmas::proofs::Lists::nothing))]
 fn check_change<'t>(
     around: &Around<'_, 't>,
     found: &mut Vec<Refusal>,
@@ -159,7 +159,7 @@ fn check_changes<'t>(
 }
 
 // The count of arguments.
-#[tactic(auto, using(crate::proofs::Args::args_counted, crate::proofs::Added::nothing))]
+#[tactic(auto, using(crate::proofs::Args::args_counted, hv_lemmas::proofs::Lists::nothing))]
 fn check_count<'t>(
     around: &Around<'_, 't>,
     found: &mut Vec<Refusal>,
@@ -178,7 +178,7 @@ fn check_count<'t>(
 }
 
 // The roots of a callee and of arguments with `&`.
-#[tactic(auto, using(crate::proofs::Added::two))]
+#[tactic(auto, using(hv_lemmas::proofs::Lists::two))]
 fn check_roots(
     around: &Around<'_, '_>,
     found: &mut Vec<Refusal>,
@@ -190,7 +190,7 @@ fn check_roots(
     check_lents(around, found, call.args.as_slice())
 }
 
-#[tactic(auto, using(crate::proofs::Added::three))]
+#[tactic(auto, using(hv_lemmas::proofs::Lists::three))]
 fn check_uses<'t>(
     around: &Around<'_, 't>,
     found: &mut Vec<Refusal>,
@@ -204,7 +204,7 @@ fn check_uses<'t>(
     check_called(around, found, &call.callee)
 }
 
-#[tactic(auto, using(crate::proofs::Added::four))]
+#[tactic(auto, using(hv_lemmas::proofs::Lists::four))]
 fn check_signed<'t>(
     around: &Around<'_, 't>,
     found: &mut Vec<Refusal>,

@@ -193,7 +193,7 @@ fn stays(around: &Around<'_, '_>, place: &PlaceExpr) -> bool
 }
 
 // What is moved.
-#[tactic(auto, using(crate::proofs::Roots::moved_opened, crate::proofs::Added::nothing, hv_tree::specs::declared::ast::Arg::TheViews::the_lemmas), unfolding(crate::proofs::Roots::moved_by))]
+#[tactic(auto, using(crate::proofs::Roots::moved_opened, hv_lemmas::proofs::Lists::nothing, hv_tree::specs::declared::ast::Arg::TheViews::the_lemmas), unfolding(crate::proofs::Roots::moved_by))]
 pub(crate) fn check_moved(
     around: &Around<'_, '_>,
     found: &mut Vec<Refusal>,

@@ -26,7 +26,7 @@ use hv_typing::{
 use std::alloc::AllocError as NoMemory;
 
 /// A place.
-#[tactic(auto, using(crate::proofs::Parted::place_opened, crate::proofs::Added::two))]
+#[tactic(auto, using(crate::proofs::Parted::place_opened, hv_lemmas::proofs::Lists::two))]
 pub fn judge_place<'t>(
     around: &Around<'_, 't>,
     found: &mut Vec<Refusal>,
@@ -71,7 +71,7 @@ fn judge_array<'t>(
     check_elements(around, found, first, xs)
 }
 
-#[tactic(auto, using(crate::proofs::Added::two, crate::proofs::Roots::root_of))]
+#[tactic(auto, using(hv_lemmas::proofs::Lists::two, crate::proofs::Roots::root_of))]
 fn judge_count<'t>(
     around: &Around<'_, 't>,
     found: &mut Vec<Refusal>,
@@ -84,7 +84,7 @@ fn judge_count<'t>(
     check_root(around, found, &place.root)
 }
 
-#[tactic(auto, using(crate::proofs::Added::two))]
+#[tactic(auto, using(hv_lemmas::proofs::Lists::two))]
 fn judge_filled<'t>(
     around: &Around<'_, 't>,
     found: &mut Vec<Refusal>,
@@ -98,7 +98,7 @@ fn judge_filled<'t>(
 }
 
 /// An expression.
-#[tactic(auto, using(crate::proofs::Parted::expr_opened, hv_tree::specs::declared::ast::Arg::TheViews::the_lemmas, crate::proofs::Added::nothing, crate::proofs::Added::two), unfolding(crate::proofs::Parted::expr_by))]
+#[tactic(auto, using(crate::proofs::Parted::expr_opened, hv_tree::specs::declared::ast::Arg::TheViews::the_lemmas, hv_lemmas::proofs::Lists::nothing, hv_lemmas::proofs::Lists::two), unfolding(crate::proofs::Parted::expr_by))]
 pub fn judge_expr<'t>(
     around: &Around<'_, 't>,
     found: &mut Vec<Refusal>,
@@ -140,7 +140,7 @@ pub fn judge_test<'t>(
     check_base(around, found, Some(Base::Bool), test)
 }
 
-#[tactic(auto, using(crate::proofs::Added::two))]
+#[tactic(auto, using(hv_lemmas::proofs::Lists::two))]
 fn judge_changed(
     around: &Around<'_, '_>,
     found: &mut Vec<Refusal>,
@@ -169,7 +169,7 @@ fn check_lent<'t>(
     )
 }
 
-#[tactic(auto, using(crate::proofs::Added::two, crate::proofs::Roots::root_of))]
+#[tactic(auto, using(hv_lemmas::proofs::Lists::two, crate::proofs::Roots::root_of))]
 fn judge_inout<'t>(
     around: &Around<'_, 't>,
     found: &mut Vec<Refusal>,
@@ -191,7 +191,7 @@ fn written<'t>(ty: Option<&'t Ty>) -> Option<Base<'t>>
     }
 }
 
-#[tactic(auto, using(crate::proofs::Added::two, crate::proofs::Roots::root_of))]
+#[tactic(auto, using(hv_lemmas::proofs::Lists::two, crate::proofs::Roots::root_of))]
 fn judge_assign<'t>(
     around: &Around<'_, 't>,
     found: &mut Vec<Refusal>,
@@ -248,7 +248,7 @@ fn judge_spawned<'t>(
     refuse_if(found, wrong, Rule::T1, call.callee.root.place)
 }
 
-#[tactic(auto, using(crate::proofs::Added::two))]
+#[tactic(auto, using(hv_lemmas::proofs::Lists::two))]
 fn judge_task<'t>(
     around: &Around<'_, 't>,
     found: &mut Vec<Refusal>,
@@ -263,7 +263,7 @@ fn judge_task<'t>(
 }
 
 /// A statement.
-#[tactic(auto, using(crate::proofs::Parted::stmt_opened, hv_tree::specs::declared::ast::Arg::TheViews::the_lemmas, crate::proofs::Added::nothing, crate::proofs::Added::two), unfolding(crate::proofs::Parted::stmt_by))]
+#[tactic(auto, using(crate::proofs::Parted::stmt_opened, hv_tree::specs::declared::ast::Arg::TheViews::the_lemmas, hv_lemmas::proofs::Lists::nothing, hv_lemmas::proofs::Lists::two), unfolding(crate::proofs::Parted::stmt_by))]
 pub fn judge_stmt<'t>(
     around: &Around<'_, 't>,
     found: &mut Vec<Refusal>,

@@ -44,7 +44,7 @@ pub(crate) fn check_base<'t>(
     }
 }
 
-#[tactic(auto, using(crate::proofs::Steps::index_alone, crate::proofs::Steps::field_alone, crate::proofs::Added::nothing, crate::proofs::Added::two))]
+#[tactic(auto, using(crate::proofs::Steps::index_alone, crate::proofs::Steps::field_alone, hv_lemmas::proofs::Lists::nothing, hv_lemmas::proofs::Lists::two))]
 fn check_index<'t>(
     around: &Around<'_, 't>,
     found: &mut Vec<Refusal>,
@@ -79,7 +79,7 @@ pub(crate) fn check_indices<'t>(
     Ok(())
 }
 
-#[tactic(auto, using(crate::proofs::Steps::no_field_alone, crate::proofs::Steps::only_field_alone, crate::proofs::Added::nothing))]
+#[tactic(auto, using(crate::proofs::Steps::no_field_alone, crate::proofs::Steps::only_field_alone, hv_lemmas::proofs::Lists::nothing))]
 fn check_field<'t>(
     around: &Around<'_, 't>,
     found: &mut Vec<Refusal>,
@@ -175,7 +175,7 @@ pub(crate) fn check_operands<'t>(
 }
 
 // All operands of a chain.
-#[tactic(auto, using(crate::proofs::Added::nothing, crate::proofs::Added::two))]
+#[tactic(auto, using(hv_lemmas::proofs::Lists::nothing, hv_lemmas::proofs::Lists::two))]
 pub(crate) fn check_chain<'t>(
     around: &Around<'_, 't>,
     found: &mut Vec<Refusal>,

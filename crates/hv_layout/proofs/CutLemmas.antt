@@ -5,7 +5,7 @@ use Rattle.std.proofs.lemmas.Bool.{eq-eqb}
 use Rattle.std.proofs.lemmas.Bool.Decides.{nat_tests}
 use Rattle.std.proofs.lemmas.List.Sorted.{IsNonDecreasingBy-from_sort, IsNonDecreasingBy-from_default, IsPartitionedBy-leb, Contains-permutation, IsPermutation-sym}
 use Rattle.std.specs.List.Sorted.{IsPermutation, IsSortedBy, IsNonDecreasingBy, IsPartitionPoint, IsPartitionedBy}
-use Rattle.hv_names.proofs.Members.{Among, listed, contained}
+use Rattle.hv_lemmas.proofs.Members.{Among, listed, contained}
 use Rattle.hv_init_law.specs.Ranked.{rank}
 use Rattle.hv_layout.specs.Cuts.{stands, Ascends, rising, count_up_to}
 

@@ -9,7 +9,7 @@ use Rattle.hv_rules.specs.Flow.{Skip, Do, Stop, Then, Either, Loop}
 use Rattle.hv_rules.specs.Locals.{Local, CoreBody, locals_of}
 use Rattle.hv_rules.specs.Events.{Events, Mark, end_of, body_events}
 use Rattle.hv_rules.specs.States.{fields_of}
-use Rattle.hv_names.proofs.Members.{Among, in_left, in_right}
+use Rattle.hv_lemmas.proofs.Members.{Among, in_left, in_right}
 use Rattle.hv_plan.specs.declared.plan.FlowOp.{FlowOp}
 use Rattle.hv_plan.specs.Spelling.{plan_of, entered, plan_of_body}
 use Rattle.hv_init_law.specs.Layout.{IsOf, SpeaksOf, Names, Occurs}

@@ -9,7 +9,7 @@ use Rattle.hv_rules.specs.States.{Leaf}
 use Rattle.hv_scope.specs.declared.known.Known.{Known}
 use Rattle.hv_scope.specs.Known.{local_by}
 use Rattle.hv_rules.specs.Rules.{leaves_from}
-use Rattle.hv_names.proofs.Members.{Among, in_left, listed, contained}
+use Rattle.hv_lemmas.proofs.Members.{Among, in_left, listed, contained}
 use Rattle.hv_plan.specs.declared.plan.FlowOp.{FlowOp}
 use Rattle.hv_plan.specs.Spelling.{plan_of_body}
 use Rattle.hv_pass.specs.declared.act.Range.{Range}

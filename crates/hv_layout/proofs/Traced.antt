@@ -1,7 +1,7 @@
 -- An event of a trace stands in the flow.
 use Rattle.std.proofs.Common.{◌≡◌, ◌⊎◌, inl, inr, List, [], ◌∷◌, ◌++◌, subst}
 use Rattle.hv_rules.specs.Flow.{Flow, Skip, Do, Stop, Then, Either, Loop, Turns, none, more, Ends, Leaves, IsWhole, IsTrace}
-use Rattle.hv_names.proofs.Members.{Among, in_left, either_in}
+use Rattle.hv_lemmas.proofs.Members.{Among, in_left, either_in}
 
 -- the event is one of the flow's
 abbrev pub StandsIn : {E : Type 0} → Flow E → E → Type 0

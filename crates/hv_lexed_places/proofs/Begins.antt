@@ -16,7 +16,7 @@ use Rattle.hv_token.specs.Lexes.{AreLongest, order_mark, body, tokens_at, tokens
 use Rattle.hv_token.proofs.Cuts.{width_append, width_concat, wide, wide_some}
 use Rattle.hv_token.proofs.Lexing.{marked_whole}
 use Rattle.hv_places.specs.TokenPlaces.{Before, Rise}
-use Rattle.hv_places.proofs.Each.{Each}
+use Rattle.hv_lemmas.proofs.Each.{Each}
 use Rattle.hv_places.proofs.Counted.{Rises, rises}
 use Rattle.hv_lexed_places.specs.Inside.{LiesIn, BeginApart}
 

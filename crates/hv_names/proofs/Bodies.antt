@@ -9,7 +9,7 @@ use Rattle.hv_rules.specs.Sites.{Scope, capture_local, lambda_body}
 use Rattle.hv_rules.specs.Names.{local_name}
 use Rattle.hv_names.specs.declared.program.Program.{Program}
 use Rattle.hv_names.specs.Found as spec
-use Rattle.hv_names.proofs.Members.{Among, in_left, in_right, either_in}
+use Rattle.hv_lemmas.proofs.Members.{Among, in_left, in_right, either_in}
 
 -- ---- the names of locals
 

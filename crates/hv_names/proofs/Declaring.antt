@@ -21,7 +21,7 @@ use Rattle.hv_tree.specs.Core as core
 use Rattle.hv_tree.proofs.CoreLemmas as lemmas
 use Rattle.hv_names.specs.declared.program.Program.{Program}
 use Rattle.hv_names.specs.Found as spec
-use Rattle.hv_names.proofs.Lists.{first_left, extended, nothing, two}
+use Rattle.hv_lemmas.proofs.Lists.{first_left, extended, nothing, two}
 
 -- ---- one after the other
 

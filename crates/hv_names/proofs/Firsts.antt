@@ -12,7 +12,7 @@ use Rattle.hv_rules.specs.TypeRules.{IsViolatedByTypes, at_part, at_struct}
 use Rattle.hv_rules.specs.Rules.{IsViolatedByEvents, in_body, at_task}
 use Rattle.hv_rules.specs.Accepted.{NamePhase, phase_of, IsViolated, IsViolatedInPhase, IsFirstOf}
 use Rattle.hv_names.specs.Found as spec
-use Rattle.hv_names.proofs.Members.{Among, in_left, in_right, either_in, listed, contained}
+use Rattle.hv_lemmas.proofs.Members.{Among, in_left, in_right, either_in, listed, contained}
 use Rattle.hv_names.proofs.Soundness.{tree_of, Wrong, n1, n2, n3, all_sound}
 use Rattle.hv_names.proofs.Wholeness.{Covered, all_whole}
 

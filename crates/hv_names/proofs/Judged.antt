@@ -11,7 +11,7 @@ use Rattle.hv_rules.specs.Names.{names_in_all, types_of, used_by, captured_by, p
 use Rattle.hv_names.specs.declared.program.Program.{Program}
 use Rattle.hv_texts.specs.Texts.{has}
 use Rattle.hv_names.specs.Found as spec
-use Rattle.hv_names.proofs.Members.{Among, in_left, in_right, either_in}
+use Rattle.hv_lemmas.proofs.Members.{Among, in_left, in_right, either_in}
 use Rattle.hv_names.proofs.Repeated.{out_only, into_only}
 use Rattle.hv_names.proofs.Unknown.{unknown, one_unknown, option_unknown, header_unknown, unknown_sound, unknown_whole}
 use Rattle.hv_names.proofs.Walked.{sees, use_at, capture_at, captures_at, expr_at, stmt_at, part_at, sites_at}

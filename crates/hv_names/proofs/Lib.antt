@@ -1,7 +1,5 @@
-pub mod Lists
 pub mod Declaring
 pub mod Parts
-pub mod Members
 pub mod Repeated
 pub mod Walked
 pub mod Agreeing

@@ -22,7 +22,7 @@ use Rattle.hv_tree.proofs.CoreLemmas as lemmas
 use Rattle.hv_names.specs.declared.program.Program.{Program}
 use Rattle.hv_names.specs.Found as spec
 use Rattle.hv_names.specs.Parts as parts
-use Rattle.hv_names.proofs.Lists.{first_left}
+use Rattle.hv_lemmas.proofs.Lists.{first_left}
 
 -- ---- types
 

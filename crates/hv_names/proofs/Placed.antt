@@ -8,7 +8,7 @@ use Rattle.hv_rules.specs.Locals.{CoreBody, fun_body}
 use Rattle.hv_rules.specs.Sites.{Part, ExprPart, CallPart, PlacePart, StmtPart, TestPart, Scope, Site, lambda_body, body_scope, sites_of_body, decl_sites, body_by, lambdas_at, decl_bodies}
 use Rattle.hv_names.specs.declared.program.Program.{Program}
 use Rattle.hv_names.specs.Found as spec
-use Rattle.hv_names.proofs.Members.{Among, in_left, in_right, either_in}
+use Rattle.hv_lemmas.proofs.Members.{Among, in_left, in_right, either_in}
 use Rattle.hv_names.proofs.Walked.{sites_at}
 use Rattle.hv_names.proofs.Agreeing.{agree_entry}
 use Rattle.hv_names.proofs.Sited.{block_same}

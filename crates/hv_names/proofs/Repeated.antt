@@ -9,7 +9,7 @@ use Rattle.hv_tree.specs.declared.refusal.Refusal.{Refusal}
 use Rattle.hv_rules.specs.Names.{Named, Repeats}
 use Rattle.hv_texts.specs.Texts.{index_from, index_of, has}
 use Rattle.hv_names.specs.Found as spec
-use Rattle.hv_names.proofs.Members.{Among, in_left, in_right, either_in, listed, contained}
+use Rattle.hv_lemmas.proofs.Members.{Among, in_left, in_right, either_in, listed, contained}
 
 -- ---- whether a text is in a list
 

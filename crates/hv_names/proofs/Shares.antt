@@ -5,7 +5,7 @@ use Rattle.std.specs.Cmp.Lexicographic.{bytes_decides}
 use Rattle.hv_tree.specs.declared.types.Name.{Name}
 use Rattle.hv_texts.specs.Texts.{index_from, index_of}
 use Rattle.hv_names.specs.Found as spec
-use Rattle.hv_names.proofs.Members.{Among, in_right}
+use Rattle.hv_lemmas.proofs.Members.{Among, in_right}
 use Rattle.hv_names.proofs.Repeated.{Has}
 
 -- ---- the first name with a text

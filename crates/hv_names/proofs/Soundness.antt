@@ -15,7 +15,7 @@ use Rattle.hv_rules.specs.Names as names
 use Rattle.hv_names.specs.declared.program.Program.{Program}
 use Rattle.hv_texts.specs.Texts.{index_of, has}
 use Rattle.hv_names.specs.Found as spec
-use Rattle.hv_names.proofs.Members.{Among, in_right, either_in, listed as among_of, contained}
+use Rattle.hv_lemmas.proofs.Members.{Among, in_right, either_in, listed as among_of, contained}
 use Rattle.hv_names.proofs.Repeated.{has_of, out_only, repeats_meet}
 use Rattle.hv_names.proofs.Unknown.{unknown, header_unknown, fields_unknown, unknown_sound, no_struct, not_there}
 use Rattle.hv_names.proofs.Walked.{sees, sites_at}

@@ -12,7 +12,7 @@ use Rattle.hv_rules.specs.Names.{names_in, names_of, names_in_all, param_type, f
 use Rattle.hv_names.specs.declared.program.Program.{Program}
 use Rattle.hv_texts.specs.Texts.{has}
 use Rattle.hv_names.specs.Found as spec
-use Rattle.hv_names.proofs.Members.{Among, in_left, in_right, either_in}
+use Rattle.hv_lemmas.proofs.Members.{Among, in_left, in_right, either_in}
 use Rattle.hv_names.proofs.Repeated.{Has, is_there, there_is, out_only, into_only}
 
 -- ---- structs

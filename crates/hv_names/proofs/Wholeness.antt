@@ -15,7 +15,7 @@ use Rattle.hv_rules.specs.Names.{Named, Repeats, ViolatesN1, top_level, of_field
 use Rattle.hv_names.specs.declared.program.Program.{Program}
 use Rattle.hv_texts.specs.Texts.{index_of, has}
 use Rattle.hv_names.specs.Found as spec
-use Rattle.hv_names.proofs.Members.{Among, in_left, in_right, listed as among_of, contained}
+use Rattle.hv_lemmas.proofs.Members.{Among, in_left, in_right, listed as among_of, contained}
 use Rattle.hv_names.proofs.Repeated.{Has, is_there, there_is, named_of, has_of, into_only, repeats_all, repeats_whole}
 use Rattle.hv_names.proofs.Unknown.{header_unknown, fields_unknown, unknown_whole, struct_no, there_not}
 use Rattle.hv_names.proofs.Walked.{sees, part_at}

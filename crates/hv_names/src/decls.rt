@@ -89,7 +89,7 @@ fn walk_decl<'a>(
     }
 }
 
-#[tactic(auto, using(crate::proofs::Lists::three))]
+#[tactic(auto, using(hv_lemmas::proofs::Lists::three))]
 fn walk_fun<'a>(
     program: &Program<'a>,
     found: &mut Vec<Refusal>,
@@ -162,7 +162,7 @@ fn note_main(found: &mut Vec<Refusal>, decls: &[Decl]) -> Result<(), NoMemory>
 }
 
 /// Violations of the rules of names, none of which is before all of these.
-#[tactic(auto, using(crate::proofs::Lists::three))]
+#[tactic(auto, using(hv_lemmas::proofs::Lists::three))]
 pub(crate) fn all_found(alloc: Global, decls: &[Decl]) -> Result<Vec<Refusal>, NoMemory>
     ensures { IfOk result (λ found. found.items ≡ spec.all_found (map core_decl decls.now)) }
 {

@@ -74,7 +74,7 @@ pub(crate) fn declare_names<'a>(
 }
 
 // Sees what a body declares, and answers what is visible at its beginning.
-#[tactic(auto, using(crate::proofs::Lists::three, crate::proofs::Lists::front_of))]
+#[tactic(auto, using(hv_lemmas::proofs::Lists::three, hv_lemmas::proofs::Lists::front_of))]
 pub(crate) fn enter<'a>(
     program: &Program<'a>,
     found: &mut Vec<Refusal>,
@@ -95,7 +95,7 @@ pub(crate) fn enter<'a>(
 }
 
 // What stands before the body of a lambda.
-#[tactic(auto, using(crate::proofs::Lists::three))]
+#[tactic(auto, using(hv_lemmas::proofs::Lists::three))]
 pub(crate) fn walk_header<'a>(
     program: &Program<'a>,
     seen: &Texts<'a>,

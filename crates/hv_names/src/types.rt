@@ -26,7 +26,7 @@ fn look_up_struct(
 }
 
 #[cycle(tys)]
-#[tactic(auto, using(crate::proofs::Parts::ty_opened, hv_tree::specs::declared::types::Ty::TheViews::the_lemmas, crate::proofs::Lists::nothing, crate::proofs::Lists::two), unfolding(crate::proofs::Parts::ty_by))]
+#[tactic(auto, using(crate::proofs::Parts::ty_opened, hv_tree::specs::declared::types::Ty::TheViews::the_lemmas, hv_lemmas::proofs::Lists::nothing, hv_lemmas::proofs::Lists::two), unfolding(crate::proofs::Parts::ty_by))]
 pub(crate) fn walk_ty(
     program: &Program<'_>,
     found: &mut Vec<Refusal>,

@@ -16,7 +16,7 @@ use std::alloc::AllocError as NoMemory;
 
 // A body, whose captures are looked up outside.
 #[cycle(parts)]
-#[tactic(auto, using(crate::proofs::Lists::two))]
+#[tactic(auto, using(hv_lemmas::proofs::Lists::two))]
 pub(crate) fn walk_body<'a>(
     program: &Program<'a>,
     found: &mut Vec<Refusal>,
@@ -31,7 +31,7 @@ pub(crate) fn walk_body<'a>(
 }
 
 #[cycle(parts)]
-#[tactic(auto, using(crate::proofs::Parts::expr_opened, hv_tree::specs::declared::ast::Arg::TheViews::the_lemmas, crate::proofs::Lists::nothing, crate::proofs::Lists::two), unfolding(crate::proofs::Parts::expr_by))]
+#[tactic(auto, using(crate::proofs::Parts::expr_opened, hv_tree::specs::declared::ast::Arg::TheViews::the_lemmas, hv_lemmas::proofs::Lists::nothing, hv_lemmas::proofs::Lists::two), unfolding(crate::proofs::Parts::expr_by))]
 pub(crate) fn walk_expr<'a>(
     program: &Program<'a>,
     seen: &Texts<'a>,
@@ -102,7 +102,7 @@ fn walk_links<'a>(
 }
 
 #[cycle(parts)]
-#[tactic(auto, using(crate::proofs::Parts::place_opened, crate::proofs::Lists::two))]
+#[tactic(auto, using(crate::proofs::Parts::place_opened, hv_lemmas::proofs::Lists::two))]
 fn walk_place<'a>(
     program: &Program<'a>,
     seen: &Texts<'a>,
@@ -131,7 +131,7 @@ fn walk_steps<'a>(
 }
 
 #[cycle(parts)]
-#[tactic(auto, using(crate::proofs::Parts::step_opened, hv_tree::specs::declared::ast::Arg::TheViews::the_lemmas, crate::proofs::Lists::nothing), unfolding(crate::proofs::Parts::step_by))]
+#[tactic(auto, using(crate::proofs::Parts::step_opened, hv_tree::specs::declared::ast::Arg::TheViews::the_lemmas, hv_lemmas::proofs::Lists::nothing), unfolding(crate::proofs::Parts::step_by))]
 fn walk_step<'a>(
     program: &Program<'a>,
     seen: &Texts<'a>,
@@ -147,7 +147,7 @@ fn walk_step<'a>(
 }
 
 #[cycle(parts)]
-#[tactic(auto, using(crate::proofs::Parts::call_opened, crate::proofs::Lists::two))]
+#[tactic(auto, using(crate::proofs::Parts::call_opened, hv_lemmas::proofs::Lists::two))]
 fn walk_call<'a>(
     program: &Program<'a>,
     seen: &Texts<'a>,
@@ -228,7 +228,7 @@ fn walk_stmts<'a>(
 
 // A statement; what it declares is not visible yet.
 #[cycle(parts)]
-#[tactic(auto, using(crate::proofs::Parts::stmt_opened, hv_tree::specs::declared::ast::Arg::TheViews::the_lemmas, crate::proofs::Lists::nothing, crate::proofs::Lists::two, crate::proofs::Lists::three), unfolding(crate::proofs::Parts::stmt_by))]
+#[tactic(auto, using(crate::proofs::Parts::stmt_opened, hv_tree::specs::declared::ast::Arg::TheViews::the_lemmas, hv_lemmas::proofs::Lists::nothing, hv_lemmas::proofs::Lists::two, hv_lemmas::proofs::Lists::three), unfolding(crate::proofs::Parts::stmt_by))]
 fn walk_stmt<'a>(
     program: &Program<'a>,
     seen: &mut Texts<'a>,
@@ -308,7 +308,7 @@ fn walk_branches<'a>(
 }
 
 #[cycle(parts)]
-#[tactic(auto, using(crate::proofs::Lists::two))]
+#[tactic(auto, using(hv_lemmas::proofs::Lists::two))]
 fn walk_branch<'a>(
     program: &Program<'a>,
     seen: &mut Texts<'a>,

@@ -25,7 +25,7 @@ use Rattle.hv_copying.specs.Operations.{number}
 use Rattle.hv_copying.proofs.RunLaws.{bind_assoc}
 use Rattle.hv_flat.specs.Accesses.{Plain}
 use Rattle.hv_flat.specs.Flat.{links_from}
-use Rattle.hv_scope.proofs.Firsts.{first_left}
+use Rattle.hv_lemmas.proofs.Lists.{first_left}
 use Rattle.hv_state.specs.declared.task.Task.{Task}
 use Rattle.hv_state.specs.Gives.{now_of, from}
 use Rattle.hv_level.specs.declared.level.Level.{Level}

@@ -9,7 +9,7 @@ use Rattle.hv_copying.specs.Run.{◌>>=◌, pure}
 use Rattle.hv_copying.specs.Operations.{binary, decides, applied}
 use Rattle.hv_copying.proofs.RunLaws.{bind_assoc}
 use Rattle.hv_flat.specs.Accesses.{Plain}
-use Rattle.hv_scope.proofs.Firsts.{first_left}
+use Rattle.hv_lemmas.proofs.Lists.{first_left}
 use Rattle.hv_level.specs.declared.level.Level.{Level}
 use Rattle.hv_level.specs.Level.{value_in}
 use Rattle.hv_operands.specs.Operands.{values_in, chained_in, captured_in, operated, capture_in}

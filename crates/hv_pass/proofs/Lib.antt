@@ -1,4 +1,3 @@
-pub mod Stacks
 pub mod CellLemmas
 pub mod AskedLemmas
 pub mod Traces

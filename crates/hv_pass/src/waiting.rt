@@ -29,7 +29,7 @@ impl Waiting {
         }
     }
 
-    #[tactic(auto, using(crate::proofs::Stacks::stacked))]
+    #[tactic(auto, using(hv_lemmas::proofs::Reversed::stacked))]
     pub fn push(&mut self, frame: Frame) -> Result<(), NoMemory>
         ensures { OnOk result (self.new ≡ frame ∷ self.old) }
     {
@@ -37,7 +37,7 @@ impl Waiting {
         Ok(())
     }
 
-    #[tactic(auto, using(crate::proofs::Stacks::stacked))]
+    #[tactic(auto, using(hv_lemmas::proofs::Reversed::stacked))]
     pub fn pop(&mut self) -> Option<Frame>
         ensures { MatchOption result ((self.old ≡ []) × (self.new ≡ [])) (λ frame. self.old ≡ frame ∷ self.new) }
     {

@@ -10,7 +10,7 @@ use Rattle.hv_rules.specs.Sites.{Site, body_by, lambdas_at}
 use Rattle.hv_rules.specs.Events.{end_of}
 use Rattle.hv_places.specs.TokenPlaces.{Before, Rise}
 use Rattle.hv_places.specs.Ends.{end_start}
-use Rattle.hv_places.proofs.Each.{Each}
+use Rattle.hv_lemmas.proofs.Each.{Each}
 
 -- 1 at the byte n
 abbrev pub hits : ℕ → Place → ℕ

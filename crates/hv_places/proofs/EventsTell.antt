@@ -16,7 +16,7 @@ use Rattle.hv_rules.specs.Flow.{Flow, Skip, Do, Stop, Then, Either, Loop, Turns,
 use Rattle.hv_rules.specs.Events.{Mark, Events, Doing, uses, inits, declaring, declared, Callee, next_conv, other_convs, Way, ByCall, BySpawn, given, lent, with_close, is_short, linked, opens_place, is_local, on_root, on_handle, awaited, captured, callee_of, expr_events, part_events, link_events, index_events, call_events, arg_events, value_events, place_events, Around, entered, behind, behind_block, return_at, scope_end, stmt_events, branch_events, block_events, stmts_events, entry_event, entry_events, end_of, stmts_in, body_around, body_end, body_events}
 use Rattle.hv_rules.specs.Rules.{IsViolatedIn, TakesChange, SpawnsChange, ViolatesS3, IsViolatedByEvents, in_body, at_task}
 use Rattle.hv_places.specs.Places.{in_ty, in_result, in_names, in_params, in_expr, in_exprs, in_links, in_steps, in_call, in_args, in_block, in_stmts, in_branches, in_stmt, places_of, IsIn}
-use Rattle.hv_places.proofs.Each.{Each, each_split, each_join, each_at, each_contained}
+use Rattle.hv_lemmas.proofs.Each.{Each, each_split, each_join, each_at, each_contained}
 use Rattle.hv_places.proofs.SitesTell.{PartTells, SiteTells, LocalTells, BodyTells, bodies_tell, sites_tell}
 
 -- ---- flows

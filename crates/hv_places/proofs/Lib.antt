@@ -1,5 +1,4 @@
 -- lists by cases
-pub mod Each
 -- parts, locals and bodies
 pub mod SitesTell
 -- runs

@@ -16,7 +16,7 @@ use Rattle.hv_copying.specs.Copying.{Locals, tree_at, with_tree, arrived, at_spo
 use Rattle.hv_copying.specs.Meaning.{start, run_of, below_root, main_in, node_by, root_by, node_of}
 use Rattle.hv_places.specs.Places.{places_of, IsIn}
 use Rattle.hv_places.specs.NodePlaces.{in_node}
-use Rattle.hv_places.proofs.Each.{Each, each_at, each_contained}
+use Rattle.hv_lemmas.proofs.Each.{Each, each_at, each_contained}
 use Rattle.hv_places.proofs.Tells.{Tells, Any, Named, LinkTells, Telling, next, pure_tells, stuck_tells, trap_tells, known_tells, mine_tells, become_tells}
 use Rattle.hv_places.proofs.TreesTell.{runs_tell}
 

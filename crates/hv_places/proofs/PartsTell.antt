@@ -25,7 +25,7 @@ use Rattle.hv_copying.specs.Calls.{Callee, Constructs, Enters, Placed, Deeper, r
 use Rattle.hv_copying.specs.Blocks.{chosen, turns, repeated, bound}
 use Rattle.hv_copying.specs.Evaluate.{function_value, top_value, named, if_local}
 use Rattle.hv_places.specs.Places.{in_names}
-use Rattle.hv_places.proofs.Each.{Each}
+use Rattle.hv_lemmas.proofs.Each.{Each}
 use Rattle.hv_places.proofs.Tells.{Tells, Any, LinkTells, Telling, bind, next, pure_tells, stuck_tells, trap_tells, spent_tells, known_tells, if_tells, pay_tells, reference_tells, unless_tells}
 
 -- a place that is there or not

@@ -9,7 +9,7 @@ use Rattle.hv_copying.specs.Node.{nodes}
 use Rattle.hv_copying.specs.Run.{Task, Res, Is, Halted, Trap, Spent, Stuck, after, Now, Run, Flow, and_then, ◌>>=◌, pure, halt, stuck, trap, spent, known, pay, say, mine, become, with_reference, counted_from, unless_left}
 use Rattle.hv_copying.specs.Ops.{Target, Spot, Mode, Passed, Ops}
 use Rattle.hv_places.specs.NodePlaces.{in_nodes}
-use Rattle.hv_places.proofs.Each.{Each}
+use Rattle.hv_lemmas.proofs.Each.{Each}
 
 -- P holds of the places of the children that have ended
 abbrev pub ChildrenTell : (Place → Type 0) → Task → Type 0

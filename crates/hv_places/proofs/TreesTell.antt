@@ -20,7 +20,7 @@ use Rattle.hv_copying.specs.Calls.{Deeper, passed_captures}
 use Rattle.hv_copying.specs.Blocks.{first_token}
 use Rattle.hv_copying.specs.Evaluate.{value, values, chained, indices, place_in, call, parts, args, child, own_values, block, statements, statement, choices, body_by, bodies_run, activations}
 use Rattle.hv_places.specs.Places.{in_ty, in_result, in_names, in_params, in_expr, in_exprs, in_links, in_steps, in_call, in_args, in_block, in_stmts, in_branches, in_stmt, places_of}
-use Rattle.hv_places.proofs.Each.{Each, each_split}
+use Rattle.hv_lemmas.proofs.Each.{Each, each_split}
 use Rattle.hv_places.proofs.SitesTell.{BodyTells, bodies_tell}
 use Rattle.hv_places.proofs.Tells.{Tells, Any, LinkTells, Telling, bind, next, pure_tells, stuck_tells, known_tells, if_tells, pay_tells, say_tells, counted_tells, unless_tells}
 use Rattle.hv_places.proofs.PartsTell as is

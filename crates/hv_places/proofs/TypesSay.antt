@@ -13,7 +13,7 @@ use Rattle.hv_tree.specs.Grammar.{AreNames, no_names, some_names, IsTaskType, no
 use Rattle.hv_tree.specs.Core.{core_ty, core_tys_of, core_option_ty, core_param}
 use Rattle.hv_tree.proofs.CoreLemmas as lemmas
 use Rattle.hv_places.specs.Places.{in_ty, in_tys, in_result, in_names, in_params}
-use Rattle.hv_places.proofs.Each.{Each, each_split, each_join}
+use Rattle.hv_lemmas.proofs.Each.{Each, each_split, each_join}
 
 module _ (P : Place → Type 0) where
   -- P holds of where the token stands

@@ -34,8 +34,7 @@ use Rattle.hv_plan.specs.declared.doing.Way.{Way}
 use Rattle.hv_plan.specs.declared.doing.Way.TheVariants as way
 use Rattle.hv_plan.specs.Spelling.{plan_of}
 use Rattle.hv_plan.specs.Plans as plans
-use Rattle.hv_scope.proofs.Firsts.{first_left}
-use Rattle.hv_scope.proofs.Added.{arg_added}
+use Rattle.hv_lemmas.proofs.Lists.{first_left, arg_added}
 
 pub closes_more : (n : ℕ) (at : Place) → 0 < n → plans.closes n at ≡ op.Do event.Close at ∷ plans.closes (n - 1) at
 closes_more zero at h = absurd (omega (arith, h))

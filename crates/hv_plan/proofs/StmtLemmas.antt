@@ -14,7 +14,7 @@ use Rattle.hv_plan.specs.declared.doing.Doing.TheVariants as doing
 use Rattle.hv_plan.specs.Spelling.{plan_of}
 use Rattle.hv_plan.specs.Plans as exprs
 use Rattle.hv_plan.specs.StmtPlans as plans
-use Rattle.hv_scope.proofs.Firsts.{first_left}
+use Rattle.hv_lemmas.proofs.Lists.{first_left}
 use Rattle.hv_plan.proofs.Around.{same_stmts, same_branches}
 
 module _ (tree : Core) (locals : List Local) where

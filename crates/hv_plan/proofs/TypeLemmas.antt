@@ -25,7 +25,7 @@ use Rattle.hv_rules.specs.declared.path.StaticStep.{StaticStep}
 use Rattle.hv_rules.specs.declared.path.StaticStep.TheVariants as static
 use Rattle.hv_rules.specs.Types.{ValueType, meant, params_meant, convs_of}
 use Rattle.hv_rules.specs.Events as events
-use Rattle.hv_scope.proofs.Firsts.{first_left}
+use Rattle.hv_lemmas.proofs.Lists.{first_left}
 use Rattle.hv_plan.specs.Scopes.{param_types}
 
 -- ---- indices

@@ -5,8 +5,7 @@ use Rattle.hv_tree.specs.declared.ast.Operator.{Operator}
 use Rattle.hv_tree.specs.declared.ast.Operator.TheVariants as operator
 use Rattle.hv_tree.specs.Tokens.{Level}
 use Rattle.hv_token.specs.Characters.{is_any_of, keywords}
-use Rattle.hv_tree.specs.Core.{CoreTy, CoreExpr, Number, Truth, Path, Calls, Awaits, Array, Filled, Count, Lambda, Prefix, Chain, CoreExprs, NoExprs, ExprOf, CoreLinks, NoLinks, LinkOf, CoreSteps, NoSteps, FieldStep, IndexStep, CoreCall, CallOf, CoreArgs, NoArgs, ValueArg, RefArg}
-use Rattle.hv_tree.specs.Core.{CoreBlock, BlockOf, CoreStmts, NoStmts, StmtOf, CoreBranches, NoElse, Else, BranchOf, CoreStmt, Var, VarWith, Let, Inout, Assign, If, While, Return, ReturnWith, Print, Task, AwaitsAlone, CallsAlone, Bare}
+use Rattle.hv_tree.specs.Core.{CoreTy, CoreExpr, Number, Truth, Path, Calls, Awaits, Array, Filled, Count, Lambda, Prefix, Chain, CoreExprs, NoExprs, ExprOf, CoreLinks, NoLinks, LinkOf, CoreSteps, NoSteps, FieldStep, IndexStep, CoreCall, CallOf, CoreArgs, NoArgs, ValueArg, RefArg, CoreBlock, BlockOf, CoreStmts, NoStmts, StmtOf, CoreBranches, NoElse, Else, BranchOf, CoreStmt, Var, VarWith, Let, Inout, Assign, If, While, Return, ReturnWith, Print, Task, AwaitsAlone, CallsAlone, Bare}
 use Rattle.hv_tree.specs.Printed.{tightness, links_tightness, expr_tightness}
 use Rattle.hv_print.specs.Pieces.{Piece, Space, LineFeed, WordOf, KeywordOf, MarkOf, indent_pieces, grouped_pieces, comma, names_pieces, typed_pieces, params_pieces, return_pieces, handle_pieces, operator_piece, operand_pieces, expr_pieces, exprs_pieces, links_pieces, steps_pieces, call_pieces, args_pieces, block_pieces, stmts_pieces, branches_pieces, stmt_pieces}
 use Rattle.hv_print.proofs.Proper.{ProperName, ProperTy, IsPrefix, ProperExpr, ProperExprs, ProperLinks, ProperSteps, ProperCall, ProperArgs, ProperBlock, ProperStmts, ProperBranches, ProperStmt}

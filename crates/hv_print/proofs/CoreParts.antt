@@ -17,8 +17,7 @@ use Rattle.hv_tree.specs.declared.ast.ExprKind.TheVariants as expr
 use Rattle.hv_tree.specs.declared.ast.StmtKind.TheVariants as stmt
 use Rattle.hv_tree.specs.declared.ast.Arg.TheVariants as arg
 use Rattle.hv_tree.specs.Grammar.{expr_at, stmt_at, path_of, call_of}
-use Rattle.hv_tree.specs.Core.{Number, Truth, Path, Calls, Awaits, Array, Filled, Count, Lambda, Prefix, Chain, CallOf, CoreArgs, RefArg, BlockOf, CoreBranches, BranchOf, Var, VarWith, Let, Inout, Assign, If, While, Return, ReturnWith, Print, Task, AwaitsAlone, CallsAlone, Bare}
-use Rattle.hv_tree.specs.Core.{core_of, core_place, core_call, core_block, core_branch, core_stmt, core_steps, core_arg, core_args, core_exprs, core_links, core_stmts, core_branches, core_ty, core_option_ty, core_param}
+use Rattle.hv_tree.specs.Core.{Number, Truth, Path, Calls, Awaits, Array, Filled, Count, Lambda, Prefix, Chain, CallOf, CoreArgs, RefArg, BlockOf, CoreBranches, BranchOf, Var, VarWith, Let, Inout, Assign, If, While, Return, ReturnWith, Print, Task, AwaitsAlone, CallsAlone, Bare, core_of, core_place, core_call, core_block, core_branch, core_stmt, core_steps, core_arg, core_args, core_exprs, core_links, core_stmts, core_branches, core_ty, core_option_ty, core_param}
 use Rattle.hv_tree.proofs.CoreLemmas as lemmas
 
 pub core_path : (root : Name) (steps : List Step) → core_place (path_of root steps) ≡ (root, core_steps steps)

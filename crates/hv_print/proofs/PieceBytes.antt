@@ -7,10 +7,7 @@ use Rattle.hv_tree.specs.declared.ast.Operator.{Operator}
 use Rattle.hv_tree.specs.declared.ast.Operator.TheVariants as operator
 use Rattle.hv_tree.specs.declared.types.Name.{Name}
 use Rattle.hv_tree.specs.declared.ast.Tree.{Tree}
-use Rattle.hv_tree.specs.Core.{CoreTy, IntTy, BoolTy, NamedTy, ArrayTy, FunTy, FunToTy, CoreTys, NoTys, TyOf, CoreParam}
-use Rattle.hv_tree.specs.Core.{CoreExpr, Number, Truth, Path, Calls, Awaits, Array, Filled, Count, Lambda, Prefix, Chain, CoreExprs, NoExprs, ExprOf, CoreLinks, NoLinks, LinkOf, CoreSteps, NoSteps, FieldStep, IndexStep, CoreCall, CallOf, CoreArgs, NoArgs, ValueArg, RefArg}
-use Rattle.hv_tree.specs.Core.{CoreBlock, BlockOf, CoreStmts, NoStmts, StmtOf, CoreBranches, NoElse, Else, BranchOf, CoreStmt, Var, VarWith, Let, Inout, Assign, If, While, Return, ReturnWith, Print, Task, AwaitsAlone, CallsAlone, Bare}
-use Rattle.hv_tree.specs.Core.{CoreField, CoreDecl, StructOf, FunOf, core_tree}
+use Rattle.hv_tree.specs.Core.{CoreTy, IntTy, BoolTy, NamedTy, ArrayTy, FunTy, FunToTy, CoreTys, NoTys, TyOf, CoreParam, CoreExpr, Number, Truth, Path, Calls, Awaits, Array, Filled, Count, Lambda, Prefix, Chain, CoreExprs, NoExprs, ExprOf, CoreLinks, NoLinks, LinkOf, CoreSteps, NoSteps, FieldStep, IndexStep, CoreCall, CallOf, CoreArgs, NoArgs, ValueArg, RefArg, CoreBlock, BlockOf, CoreStmts, NoStmts, StmtOf, CoreBranches, NoElse, Else, BranchOf, CoreStmt, Var, VarWith, Let, Inout, Assign, If, While, Return, ReturnWith, Print, Task, AwaitsAlone, CallsAlone, Bare, CoreField, CoreDecl, StructOf, FunOf, core_tree}
 use Rattle.hv_tree.specs.Printed.{indent, grouped, conv_text, is_fun_ty, ty_text, tys_text, params_text, return_text, handle_text, names_text, operator_text, links_tightness, expr_tightness, expr_text, exprs_text, links_text, steps_text, call_text, args_text, block_text, bare_text, stmts_text, branches_text, stmt_text, fields_text, new_line, decl_text, decls_text, Printed}
 use Rattle.hv_print.specs.Pieces.{Piece, Space, KeywordOf, MarkOf, piece_bytes, bytes_of, indent_pieces, grouped_pieces, comma, names_pieces, conv_pieces, ty_pieces, tys_pieces, params_pieces, return_pieces, handle_pieces, operator_piece, expr_pieces, exprs_pieces, links_pieces, steps_pieces, call_pieces, args_pieces, block_pieces, bare_pieces, stmts_pieces, branches_pieces, stmt_pieces, fields_pieces, decl_pieces, decls_pieces, Pieces}
 

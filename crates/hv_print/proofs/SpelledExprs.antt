@@ -7,18 +7,12 @@ use Rattle.hv_tree.specs.declared.ast.ExprKind.TheVariants as expr
 use Rattle.hv_tree.specs.declared.ast.Step.TheVariants as step
 use Rattle.hv_tree.specs.declared.ast.StmtKind.TheVariants as stmt
 use Rattle.hv_tree.specs.Tokens.{mark, keyword, word, Level}
-use Rattle.hv_tree.specs.Grammar.{expr_at, stmt_at, path_of, call_of}
-use Rattle.hv_tree.specs.Grammar.{numeral_primary, truth_primary, falsehood_primary, path_primary, call_primary, await_primary, array_primary, filled_primary, count_primary, lambda_primary}
-use Rattle.hv_tree.specs.Grammar.{AreSteps, none_step, field_step, index_step, IsCall, is_call, AreArgs, none_args}
-use Rattle.hv_tree.specs.Grammar.{none_stmts, var_stmt, var_with_stmt, let_stmt, inout_stmt, assign_stmt, if_stmt, while_stmt, return_stmt, print_stmt, task_stmt, await_stmt, call_stmt, block_stmt}
-use Rattle.hv_tree.specs.Core.{CoreExpr, Number, Truth, Path, Calls, Awaits, Array, Filled, Count, Lambda, Prefix, Chain, CoreExprs, NoExprs, ExprOf, CoreLinks, NoLinks, LinkOf, CoreSteps, NoSteps, FieldStep, IndexStep, CoreCall, CallOf, CoreArgs, NoArgs, ValueArg, RefArg}
-use Rattle.hv_tree.specs.Core.{CoreBlock, BlockOf, CoreStmts, NoStmts, StmtOf, CoreBranches, NoElse, Else, BranchOf, CoreStmt, Var, VarWith, Let, Inout, Assign, If, While, Return, ReturnWith, Print, Task, AwaitsAlone, CallsAlone, Bare}
-use Rattle.hv_tree.specs.Core.{CoreTy, core_steps}
+use Rattle.hv_tree.specs.Grammar.{expr_at, stmt_at, path_of, call_of, numeral_primary, truth_primary, falsehood_primary, path_primary, call_primary, await_primary, array_primary, filled_primary, count_primary, lambda_primary, AreSteps, none_step, field_step, index_step, IsCall, is_call, AreArgs, none_args, none_stmts, var_stmt, var_with_stmt, let_stmt, inout_stmt, assign_stmt, if_stmt, while_stmt, return_stmt, print_stmt, task_stmt, await_stmt, call_stmt, block_stmt}
+use Rattle.hv_tree.specs.Core.{CoreExpr, Number, Truth, Path, Calls, Awaits, Array, Filled, Count, Lambda, Prefix, Chain, CoreExprs, NoExprs, ExprOf, CoreLinks, NoLinks, LinkOf, CoreSteps, NoSteps, FieldStep, IndexStep, CoreCall, CallOf, CoreArgs, NoArgs, ValueArg, RefArg, CoreBlock, BlockOf, CoreStmts, NoStmts, StmtOf, CoreBranches, NoElse, Else, BranchOf, CoreStmt, Var, VarWith, Let, Inout, Assign, If, While, Return, ReturnWith, Print, Task, AwaitsAlone, CallsAlone, Bare, CoreTy, core_steps}
 use Rattle.hv_tree.proofs.CoreLemmas as lemmas
 use Rattle.hv_print.specs.Aside.{nowhere, name_aside, ty_aside, result_aside, param_aside, expr_aside, exprs_aside, steps_aside, call_aside, args_aside, block_aside, stmt_aside}
 use Rattle.hv_print.specs.Pieces.{Piece, WordOf, MarkOf, piece_bytes, here, placed, tokens_of, indent_pieces, comma, names_pieces, typed_pieces, ty_pieces, params_pieces, return_pieces, handle_pieces, operator_piece, expr_pieces, exprs_pieces, steps_pieces, call_pieces, args_pieces, block_pieces, stmt_pieces}
-use Rattle.hv_print.proofs.CoreParts.{core_int, core_truth, core_path_expr, core_calls, core_awaits, core_array, core_filled, core_count, core_lambda, core_called}
-use Rattle.hv_print.proofs.CoreParts.{core_var, core_var_with, core_let, core_inout, core_assign, core_if, core_while, core_return_with, core_print, core_task, core_awaits_alone, core_calls_alone, core_bare}
+use Rattle.hv_print.proofs.CoreParts.{core_int, core_truth, core_path_expr, core_calls, core_awaits, core_array, core_filled, core_count, core_lambda, core_called, core_var, core_var_with, core_let, core_inout, core_assign, core_if, core_while, core_return_with, core_print, core_task, core_awaits_alone, core_calls_alone, core_bare}
 use Rattle.hv_print.proofs.Proper.{IsOf, MayGoOn, ProperExpr, ProperExprs, ProperLinks, ProperSteps, ProperCall, ProperArgs, ProperBlock, ProperStmts, ProperBranches, ProperStmt}
 use Rattle.hv_print.proofs.SpelledTypes.{Reads, behind, split, of_ty}
 use Rattle.hv_print.proofs.SpelledParts.{of_names, of_params, of_return, of_handle, seen_params, seen_result}

@@ -6,7 +6,7 @@ use Rattle.hv_tree.specs.Core.{CoreField, CoreParam, CoreTy, IntTy, BoolTy, Name
 use Rattle.hv_rules.specs.Locals.{listed, CoreBody}
 use Rattle.hv_rules.specs.Sites.{Part, ExprPart, CallPart, PlacePart, StmtPart, TestPart, Scope, body_by}
 use Rattle.hv_rules.specs.Names.{param_type, field_type, types_of}
-use Rattle.hv_judge.proofs.Members.{Among, in_left, in_right, either_in}
+use Rattle.hv_lemmas.proofs.Members.{Among, in_left, in_right, either_in}
 use Rattle.hv_safe.specs.Runs.{OnlyReads, AllRead, PartRuns, Returns}
 use Rattle.hv_runs.specs.Walked as spec
 use Rattle.hv_runs.proofs.Sited.{part_alone}

@@ -4,7 +4,7 @@ use Rattle.hv_tree.specs.Core.{Core, CoreDecl, StructOf, FunOf, CoreFun, CoreStr
 use Rattle.hv_rules.specs.Locals.{CoreBody, fun_body}
 use Rattle.hv_rules.specs.Sites.{Site, body_scope, body_by, sites_of_body, decl_sites, lambdas_at, decl_bodies, sites_of, bodies_of}
 use Rattle.hv_rules.specs.Names.{types_of_decl, types_of}
-use Rattle.hv_judge.proofs.Members.{Among, in_left, in_right, either_in, listed, contained}
+use Rattle.hv_lemmas.proofs.Members.{Among, in_left, in_right, either_in, listed, contained}
 use Rattle.hv_safe.specs.Runs.{PartRuns, Returns, Runs}
 use Rattle.hv_runs.specs.Walked as spec
 use Rattle.hv_runs.proofs.Sited.{part_alone, sites_run, block_same}

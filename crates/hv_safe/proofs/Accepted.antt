@@ -13,7 +13,7 @@ use Rattle.hv_rules.specs.Names.{Named, decl_name, top_level, in_body, shared, N
 use Rattle.hv_rules.specs.TypeRules.{ViolatesType, IsViolatedByTypes, at_part}
 use Rattle.hv_rules.specs.Accepted.{NamePhase, TypePhase, phase_of, IsFirstOf}
 use Rattle.hv_copying.specs.Places.{body_number}
-use Rattle.hv_judge.proofs.Members.{Among, in_left, in_right, either_in, listed, contained}
+use Rattle.hv_lemmas.proofs.Members.{Among, in_left, in_right, either_in, listed, contained}
 use Rattle.hv_safe.specs.Formed.{IsFormed, IsBody}
 use Rattle.hv_safe.specs.Runs.{Runs}
 use Rattle.hv_safe.proofs.Lists.{at_among, map_among, Distinct, distinct, numbered, named, local_found, local_lacks, no_number, fun_found, struct_found, fun_lacks, no_decl, same_decl, number_finds}

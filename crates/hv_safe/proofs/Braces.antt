@@ -6,7 +6,7 @@ use Rattle.hv_tree.specs.Core.{CoreDecl, StructOf, FunOf, CoreExpr, Number, Trut
 use Rattle.hv_rules.specs.Locals.{CoreBody, fun_body}
 use Rattle.hv_rules.specs.Sites.{Scope, scope_behind, lambda_body, body_scope, Site, expr_sites, exprs_sites, link_sites, step_sites, call_sites, arg_sites, block_sites, stmts_sites, branch_sites, stmt_sites, sites_of_body, decl_sites, body_by, lambdas_at, decl_bodies}
 use Rattle.hv_rules.specs.Events.{end_of}
-use Rattle.hv_judge.proofs.Members.{Among}
+use Rattle.hv_lemmas.proofs.Members.{Among}
 use Rattle.hv_safe.specs.Formed.{AreOfLevel, HasElement, PartIsFormed}
 
 -- ---- what the grammar says, everywhere in a part

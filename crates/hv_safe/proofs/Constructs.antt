@@ -26,7 +26,7 @@ use Rattle.hv_copying.specs.Places.{all_of, counted, declared, all_found, captur
 use Rattle.hv_copying.specs.Calls.{Deeper, Callee, Constructs, Enters, Placed, result_of, call_by, pass_value, entered}
 use Rattle.hv_copying.specs.Blocks.{bound}
 use Rattle.hv_copying.specs.Copying.{Locals, tree_at, copying}
-use Rattle.hv_judge.proofs.Members.{Among}
+use Rattle.hv_lemmas.proofs.Members.{Among}
 use Rattle.hv_safe.specs.Formed.{IsBody}
 use Rattle.hv_safe.proofs.Ends.{Does, bind, next, given, before, behind, gives, then_known, then_pay, traps, refers, writes, reads_under, calls}
 use Rattle.hv_safe.proofs.Inside.{Good}

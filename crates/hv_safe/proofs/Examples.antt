@@ -15,15 +15,14 @@ use Rattle.hv_rules.specs.Sites.{Site, sites_of, decl_bodies, bodies_of}
 use Rattle.hv_rules.specs.Events.{end_of}
 use Rattle.hv_rules.specs.Types.{StructType}
 use Rattle.hv_rules.specs.Typing.{Unknown, type_of}
-use Rattle.hv_rules.specs.TypeRules.{HoldsFunction, is_fun, is_fun_to, in_element, in_field}
+use Rattle.hv_rules.specs.TypeRules.{HoldsFunction, is_fun, is_fun_to, in_element, in_field, at_part, at_struct}
 use Rattle.hv_rules.specs.Names.{Repeats, Named, decl_name, local_name, top_level, of_fields, in_body, shared, SharesName, ViolatesN1, NothingVisible, ViolatesN2, in_decl, in_type, as_used, as_captured, used_by, captured_by, types_of, types_of_decl, names_in_all}
 use Rattle.hv_rules.specs.Accepted.{NamePhase, TypePhase, phase_of, IsViolated, IsFirstOf}
-use Rattle.hv_rules.specs.TypeRules.{at_part, at_struct}
 use Rattle.hv_rules.specs.Rules as rules
 use Rattle.hv_copying.specs.Run.{and_then, mine, become, pure, halt, pay, counted_from}
 use Rattle.hv_copying.specs.Meaning.{IsSafe, node_of}
 use Rattle.hv_texts.specs.Texts.{index_of, has}
-use Rattle.hv_judge.proofs.Members.{Among, in_left, in_right, either_in, listed, contained}
+use Rattle.hv_lemmas.proofs.Members.{Among, in_left, in_right, either_in, listed, contained}
 use Rattle.hv_judge.proofs.Program.{types_first}
 use Rattle.hv_safe.specs.Formed.{IsFormed, IsBody, PartIsFormed, AreOfLevel}
 use Rattle.hv_safe.specs.Runs.{OnlyReads, PartRuns, Returns, Runs}

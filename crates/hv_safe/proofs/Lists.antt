@@ -13,7 +13,7 @@ use Rattle.hv_rules.specs.Names.{Repeats, Named, local_name, decl_name}
 use Rattle.hv_rules.specs.Events.{end_of}
 use Rattle.hv_copying.specs.Places.{same_place}
 use Rattle.hv_copying.specs.Places as bodies
-use Rattle.hv_judge.proofs.Members.{Among, listed}
+use Rattle.hv_lemmas.proofs.Members.{Among, listed}
 
 -- ---- numbers
 

@@ -13,7 +13,7 @@ use Rattle.hv_copying.specs.Ops.{Target, Spot, Mode, Reads, Value, Lent}
 use Rattle.hv_copying.specs.Ops as ops
 use Rattle.hv_copying.specs.Calls.{passed_captures}
 use Rattle.hv_copying.specs.Copying.{Locals, tree_at, change_at, with_tree, at_spot, written, without, callee_trees, entering, returned, copying}
-use Rattle.hv_judge.proofs.Members.{Among}
+use Rattle.hv_lemmas.proofs.Members.{Among}
 use Rattle.hv_safe.proofs.Ends.{Does, Finds, looks}
 use Rattle.hv_safe.proofs.Fits.{Fits, FitLocals, locals_none, locals_more}
 use Rattle.hv_safe.proofs.Ways.{LinksFit, Arrives, arrives, falls_out, walks}

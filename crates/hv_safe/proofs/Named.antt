@@ -20,7 +20,7 @@ use Rattle.hv_copying.specs.Places.{type_of, whole, copied, found, body_number}
 use Rattle.hv_copying.specs.Calls.{Callee, Constructs, Enters, value_callee, struct_callee, fun_callee, top_callee, callee}
 use Rattle.hv_copying.specs.Evaluate.{function_value, top_value, named}
 use Rattle.hv_copying.specs.Copying.{Locals, copying}
-use Rattle.hv_judge.proofs.Members.{Among}
+use Rattle.hv_lemmas.proofs.Members.{Among}
 use Rattle.hv_safe.specs.Formed.{IsBody}
 use Rattle.hv_safe.proofs.Ends.{Does, bind, next, given, before, behind, gives, then_pure, then_known, then_pay}
 use Rattle.hv_safe.proofs.Inside.{Good, good_fun}

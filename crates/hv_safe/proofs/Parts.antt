@@ -30,7 +30,7 @@ use Rattle.hv_copying.specs.Calls.{Deeper, passed_captures, callee, entered, pas
 use Rattle.hv_copying.specs.Blocks.{first_token}
 use Rattle.hv_copying.specs.Evaluate.{if_local, value, values, chained, indices, place_in, call, parts, args, block, statements, statement, choices}
 use Rattle.hv_copying.specs.Copying.{Locals, copying}
-use Rattle.hv_judge.proofs.Members.{Among, contained}
+use Rattle.hv_lemmas.proofs.Members.{Among, contained}
 use Rattle.hv_safe.specs.Formed.{AreOfLevel}
 use Rattle.hv_safe.specs.Runs.{gives_back}
 use Rattle.hv_safe.proofs.Ends.{Does, IsTruth, bind, next, behind, gives, then_known, then_pay, says, writes, unless, chooses, repeats}

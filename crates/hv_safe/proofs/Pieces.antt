@@ -15,7 +15,7 @@ use Rattle.hv_rules.specs.Typing.{Known, Unknown, Nothing, Is, array_of, or_noth
 use Rattle.hv_rules.specs.Typing as typing
 use Rattle.hv_rules.specs.TypeRules.{expr_place, Misfits, ElementMisfits, ArgMisfits, CallMisfits, count_of, CountDiffers, HasMark, MarkDiffers, CallT5}
 use Rattle.hv_value.specs.ValueTree.{ValueTree, Elements, row}
-use Rattle.hv_judge.proofs.Members.{Among, either_in, contained}
+use Rattle.hv_lemmas.proofs.Members.{Among, either_in, contained}
 use Rattle.hv_safe.specs.Formed.{level_of, MayGoOn, AreOfLevel, HasElement, PartIsFormed}
 use Rattle.hv_safe.specs.Runs.{PartRuns}
 use Rattle.hv_safe.proofs.Inside.{Good}

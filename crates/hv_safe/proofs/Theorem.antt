@@ -10,7 +10,7 @@ use Rattle.hv_copying.specs.Places.{body_number}
 use Rattle.hv_copying.specs.Evaluate.{block, body_run, body_by, bodies_run, activations}
 use Rattle.hv_copying.specs.Copying.{Locals, copying}
 use Rattle.hv_copying.specs.Meaning.{node_by, node_of, root_by, start, below_root, main_in, IsSafe}
-use Rattle.hv_judge.proofs.Members.{Among, contained}
+use Rattle.hv_lemmas.proofs.Members.{Among, contained}
 use Rattle.hv_safe.specs.Formed.{IsFormed, IsBody}
 use Rattle.hv_safe.specs.Runs.{gives_back, ends_in_return, block_ends_in_return, Returns, Runs}
 use Rattle.hv_safe.proofs.Ends.{Ends, e_is, e_trap, e_spent, Does, next, gives, counted}

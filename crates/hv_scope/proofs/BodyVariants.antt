@@ -25,7 +25,7 @@ use Rattle.hv_tree.proofs.CoreLemmas as lemmas
 use Rattle.hv_rules.specs.Locals.{Local, param_local, binds, listed}
 use Rattle.hv_rules.specs.Sites.{capture_local}
 use Rattle.hv_scope.specs.Bodies as spec
-use Rattle.hv_scope.proofs.Firsts.{first_left}
+use Rattle.hv_lemmas.proofs.Lists.{first_left}
 
 abbrev StepLayer : Type 0
 StepLayer = Step-F Arg ExprKind Step StmtKind Block Branch Call Expr PlaceExpr Stmt

@@ -9,7 +9,7 @@ use Rattle.hv_rules.specs.Locals.{fun_body}
 use Rattle.hv_rules.specs.Sites.{decl_bodies, body_scope, lambdas_at, sites_of_body}
 use Rattle.hv_scope.specs.Known.{core_fun}
 use Rattle.hv_scope.specs.Bodies.{function_bodies}
-use Rattle.hv_scope.proofs.Firsts.{first_left}
+use Rattle.hv_lemmas.proofs.Lists.{first_left}
 use Rattle.hv_scope.proofs.SiteBodies.{at_block}
 
 decl_split : (d : CoreDecl) (rest : List CoreDecl) → decl_bodies (d ∷ rest) ≡ decl_bodies (d ∷ []) ++ decl_bodies rest

@@ -1,6 +1,5 @@
 -- Visible locals with what each hides, the newest first.
-use Rattle.std.proofs.Common.{◌≡◌, ℕ, zero, suc, ◌<◌, Bool, true, false, if◌then◌else◌, List, [], ◌∷◌, ◌++◌, length, map, reverse, Option, Some, None, refl, sym, ap, ◌∙◌, arith}
-use Rattle.std.proofs.Common.{cond}
+use Rattle.std.proofs.Common.{◌≡◌, ℕ, zero, suc, ◌<◌, Bool, true, false, if◌then◌else◌, List, [], ◌∷◌, ◌++◌, length, map, reverse, Option, Some, None, refl, sym, ap, ◌∙◌, arith, cond}
 use Rattle.std.proofs.lemmas.List.{length-map, length-reverse, reverse-append, reverse-reverse}
 use Rattle.std.specs.Str.{bytes_eq}
 use Rattle.std.specs.List.{slice_get}
@@ -10,7 +9,7 @@ use Rattle.hv_scope.specs.declared.known.Entry.{Entry}
 use Rattle.hv_scope.specs.declared.known.Known.{Known}
 use Rattle.hv_scope.specs.Known.{local_by, text_of}
 use Rattle.hv_scope.specs.Entries.{known_of, seen, place_of, Restores}
-use Rattle.hv_scope.proofs.Stacks.{stacked}
+use Rattle.hv_lemmas.proofs.Reversed.{stacked}
 use Rattle.hv_scope.proofs.Places.{got}
 
 abbrev pub option_entry : Option Entry → Option Local

@@ -1,6 +1,3 @@
-pub mod Firsts
-pub mod Added
-pub mod Stacks
 pub mod OldestLemmas
 pub mod Places
 pub mod EntryLemmas

@@ -21,7 +21,7 @@ use Rattle.hv_tree.specs.Core.{Core, core_ty, CoreSteps, NoSteps, core_step, cor
 use Rattle.hv_tree.proofs.CoreLemmas as lemmas
 use Rattle.hv_rules.specs.Types.{ValueType, meant, FieldAt, struct_in, fields_or_none, field_from, field_of, element_of}
 use Rattle.hv_rules.specs.Events as events
-use Rattle.hv_scope.proofs.Firsts.{first_left}
+use Rattle.hv_lemmas.proofs.Lists.{first_left}
 
 -- ---- elements
 

@@ -12,7 +12,7 @@ use Rattle.hv_rules.specs.Flow.{Flow, Skip, Do, Stop, Then, Either, Loop}
 use Rattle.hv_rules.specs.Locals.{LocalKind, Captured, Passed, VarBound, LetBound, InoutBound, Handle, Local, CoreBody, entry_locals, locals_of, declared_in, in_block, binds}
 use Rattle.hv_rules.specs.Events as events
 use Rattle.hv_rules.specs.Rules.{back_at}
-use Rattle.hv_names.proofs.Members.{Among, listed}
+use Rattle.hv_lemmas.proofs.Members.{Among, listed}
 use Rattle.hv_traces.specs.Carried.{behind, carrying}
 use Rattle.hv_steady.specs.Sight.{sees, seen_in}
 use Rattle.hv_steady.specs.Needs.{is_in, gives_at, text_in}

@@ -27,9 +27,7 @@ use Rattle.hv_tree.specs.declared.ast.Arg.TheVariants as arg
 use Rattle.hv_tree.specs.declared.ast.Arg.TheOpen.{Arg-F, ExprKind-F, Step-F, StmtKind-F}
 use Rattle.hv_tree.specs.declared.ast.Arg.TheFolds.{fold_out-Arg, fold_out-ExprKind, fold_out-Step, fold_out-StmtKind, fold_out-Block, fold_out-Branch, fold_out-Call, fold_out-Expr, fold_out-PlaceExpr, fold_out-Stmt}
 use Rattle.hv_tree.specs.declared.ast.Arg.TheViews.{the_lemmas}
-use Rattle.hv_tree.specs.Core.{IntTy, BoolTy, NamedTy, ArrayTy, FunTy, FunToTy, core_tys_of, core_ty, core_option_ty, core_param}
-use Rattle.hv_tree.specs.Core.{CoreExpr, Number, Truth, Path, Calls, Awaits, Array, Filled, Count, Lambda, Prefix, Chain, CoreSteps, FieldStep, IndexStep, CallOf, CoreArgs, ValueArg, RefArg, BlockOf, CoreBranches, BranchOf, CoreStmt, Var, VarWith, Let, Inout, Assign, If, While, Return, ReturnWith, Print, Task, AwaitsAlone, CallsAlone, Bare}
-use Rattle.hv_tree.specs.Core.{core_of, core_kind, core_step, core_arg, core_place, core_call, core_block, core_branch, core_stmt, core_stmt_kind, core_steps, core_args, core_exprs, core_links, core_stmts, core_branches}
+use Rattle.hv_tree.specs.Core.{IntTy, BoolTy, NamedTy, ArrayTy, FunTy, FunToTy, core_tys_of, core_ty, core_option_ty, core_param, CoreExpr, Number, Truth, Path, Calls, Awaits, Array, Filled, Count, Lambda, Prefix, Chain, CoreSteps, FieldStep, IndexStep, CallOf, CoreArgs, ValueArg, RefArg, BlockOf, CoreBranches, BranchOf, CoreStmt, Var, VarWith, Let, Inout, Assign, If, While, Return, ReturnWith, Print, Task, AwaitsAlone, CallsAlone, Bare, core_of, core_kind, core_step, core_arg, core_place, core_call, core_block, core_branch, core_stmt, core_stmt_kind, core_steps, core_args, core_exprs, core_links, core_stmts, core_branches}
 
 -- ---- structs
 

@@ -12,9 +12,7 @@ use Rattle.hv_tree.specs.declared.ast.Arg.{Arg}
 use Rattle.hv_tree.specs.declared.ast.Call.{Call}
 use Rattle.hv_tree.specs.Tokens.{Tokens, mark, word, number, Level, Ors, Ands, Comparisons, Sums, Products, IsInfix, or_sign, and_sign, eq_sign, ne_sign, lt_sign, le_sign, gt_sign, ge_sign, add_sign, sub_sign, mul_sign, div_sign, rem_sign}
 use Rattle.hv_tree.specs.Refusal.{is_mark}
-use Rattle.hv_tree.specs.Grammar.{IsOperand, and_operand, comparison_operand, sum_operand, product_operand, unary_operand, IsLevel, alone_level, chain_level, AreLinks, last_link, more_link, IsUnary, plain_unary, negated_unary, inverted_unary}
-use Rattle.hv_tree.specs.Grammar.{IsPrimary, numeral_primary, truth_primary, falsehood_primary, path_primary, call_primary, group_primary, await_primary, array_primary, filled_primary, count_primary, lambda_primary, AreElements, one_element, more_element}
-use Rattle.hv_tree.specs.Grammar.{AreSteps, none_step, field_step, index_step, IsCall, is_call, AreArgs, none_args, some_args, AreSomeArgs, one_arg, more_arg, IsArg, value_argument, ref_argument}
+use Rattle.hv_tree.specs.Grammar.{IsOperand, and_operand, comparison_operand, sum_operand, product_operand, unary_operand, IsLevel, alone_level, chain_level, AreLinks, last_link, more_link, IsUnary, plain_unary, negated_unary, inverted_unary, IsPrimary, numeral_primary, truth_primary, falsehood_primary, path_primary, call_primary, group_primary, await_primary, array_primary, filled_primary, count_primary, lambda_primary, AreElements, one_element, more_element, AreSteps, none_step, field_step, index_step, IsCall, is_call, AreArgs, none_args, some_args, AreSomeArgs, one_arg, more_arg, IsArg, value_argument, ref_argument}
 
 impossible : {A : Type 0} → false ≡ true → A
 impossible h = cc

@@ -6,7 +6,7 @@ use Rattle.hv_types.specs.declared.fields.FieldBase.TheVariants as base
 use Rattle.hv_types.specs.Table.{HoldsAt, at_once, through, row_at}
 use Rattle.hv_types.specs.Holders as spec
 use Rattle.hv_types.specs.Holders.{Reached, begins, follows, users_at}
-use Rattle.hv_judge.proofs.Members.{Among, in_left, in_right, either_in, listed, contained}
+use Rattle.hv_lemmas.proofs.Members.{Among, in_left, in_right, either_in, listed, contained}
 
 -- each user that is listed is one by P
 abbrev Right : (ℕ → ℕ → Type 0) → List (List ℕ) → Type 0

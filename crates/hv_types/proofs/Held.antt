@@ -17,7 +17,7 @@ use Rattle.hv_types.specs.Table.{HoldsAt, at_once, through, row_at, table_of, ro
 use Rattle.hv_types.specs.Holders.{AreHolders}
 use Rattle.hv_types.specs.Structs as spec
 use Rattle.hv_types.proofs.Numbers.{Numbered, numbers, kept}
-use Rattle.hv_judge.proofs.Members.{Among, in_left, in_right, either_in, listed, contained}
+use Rattle.hv_lemmas.proofs.Members.{Among, in_left, in_right, either_in, listed, contained}
 
 -- ---- lists
 

@@ -26,7 +26,7 @@ fn walk_function<'t>(
     )
 }
 
-#[tactic(auto, using(crate::proofs::Walks::struct_nothing, crate::proofs::Walks::function_alone, hv_judge::proofs::Added::nothing))]
+#[tactic(auto, using(crate::proofs::Walks::struct_nothing, crate::proofs::Walks::function_alone, hv_lemmas::proofs::Lists::nothing))]
 fn walk_decl<'t>(
     program: &Program<'_, 't>,
     found: &mut Vec<Refusal>,

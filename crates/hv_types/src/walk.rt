@@ -12,7 +12,7 @@ use hv_tree::{
 use std::alloc::AllocError as NoMemory;
 
 #[cycle(parts)]
-#[tactic(auto, using(crate::proofs::Walks::expr_split, hv_judge::proofs::Added::two))]
+#[tactic(auto, using(crate::proofs::Walks::expr_split, hv_lemmas::proofs::Lists::two))]
 fn walk_expr<'t>(
     program: &Program<'_, 't>,
     visible: &Visible<'t>,
@@ -28,7 +28,7 @@ fn walk_expr<'t>(
 
 // The parts of an expression.
 #[cycle(parts)]
-#[tactic(auto, using(crate::proofs::Walks::inside_opened, hv_tree::specs::declared::ast::Arg::TheViews::the_lemmas, hv_judge::proofs::Added::nothing, hv_judge::proofs::Added::two), unfolding(crate::proofs::Walks::inside_by))]
+#[tactic(auto, using(crate::proofs::Walks::inside_opened, hv_tree::specs::declared::ast::Arg::TheViews::the_lemmas, hv_lemmas::proofs::Lists::nothing, hv_lemmas::proofs::Lists::two), unfolding(crate::proofs::Walks::inside_by))]
 fn walk_inside<'t>(
     program: &Program<'_, 't>,
     visible: &Visible<'t>,
@@ -123,7 +123,7 @@ fn walk_links<'t>(
 }
 
 #[cycle(parts)]
-#[tactic(auto, using(crate::proofs::Walks::place_split, hv_judge::proofs::Added::two))]
+#[tactic(auto, using(crate::proofs::Walks::place_split, hv_lemmas::proofs::Lists::two))]
 fn walk_place<'t>(
     program: &Program<'_, 't>,
     visible: &Visible<'t>,
@@ -154,7 +154,7 @@ fn walk_steps<'t>(
 }
 
 #[cycle(parts)]
-#[tactic(auto, using(crate::proofs::Walks::step_opened, hv_tree::specs::declared::ast::Arg::TheViews::the_lemmas, hv_judge::proofs::Added::nothing), unfolding(crate::proofs::Walks::step_by))]
+#[tactic(auto, using(crate::proofs::Walks::step_opened, hv_tree::specs::declared::ast::Arg::TheViews::the_lemmas, hv_lemmas::proofs::Lists::nothing), unfolding(crate::proofs::Walks::step_by))]
 fn walk_step<'t>(
     program: &Program<'_, 't>,
     visible: &Visible<'t>,
@@ -171,7 +171,7 @@ fn walk_step<'t>(
 }
 
 #[cycle(parts)]
-#[tactic(auto, using(crate::proofs::Walks::call_split, hv_judge::proofs::Added::three))]
+#[tactic(auto, using(crate::proofs::Walks::call_split, hv_lemmas::proofs::Lists::three))]
 fn walk_call<'t>(
     program: &Program<'_, 't>,
     visible: &Visible<'t>,
@@ -258,7 +258,7 @@ fn walk_stmts<'t>(
 
 // A statement; what it declares is not visible yet.
 #[cycle(parts)]
-#[tactic(auto, using(crate::proofs::Walks::stmt_split, hv_judge::proofs::Added::two))]
+#[tactic(auto, using(crate::proofs::Walks::stmt_split, hv_lemmas::proofs::Lists::two))]
 fn walk_stmt<'t>(
     program: &Program<'_, 't>,
     visible: &mut Visible<'t>,
@@ -275,7 +275,7 @@ fn walk_stmt<'t>(
 
 // The parts of a statement.
 #[cycle(parts)]
-#[tactic(auto, using(crate::proofs::Walks::within_opened, hv_tree::specs::declared::ast::Arg::TheViews::the_lemmas, hv_judge::proofs::Added::nothing, hv_judge::proofs::Added::two), unfolding(crate::proofs::Walks::within_by))]
+#[tactic(auto, using(crate::proofs::Walks::within_opened, hv_tree::specs::declared::ast::Arg::TheViews::the_lemmas, hv_lemmas::proofs::Lists::nothing, hv_lemmas::proofs::Lists::two), unfolding(crate::proofs::Walks::within_by))]
 fn walk_within<'t>(
     program: &Program<'_, 't>,
     visible: &mut Visible<'t>,
@@ -331,7 +331,7 @@ fn walk_option_expr<'t>(
 }
 
 #[cycle(parts)]
-#[tactic(auto, using(hv_judge::proofs::Added::two))]
+#[tactic(auto, using(hv_lemmas::proofs::Lists::two))]
 fn walk_test<'t>(
     program: &Program<'_, 't>,
     visible: &Visible<'t>,
@@ -363,7 +363,7 @@ fn walk_branches<'t>(
 }
 
 #[cycle(parts)]
-#[tactic(auto, using(hv_judge::proofs::Added::two))]
+#[tactic(auto, using(hv_lemmas::proofs::Lists::two))]
 fn walk_branch<'t>(
     program: &Program<'_, 't>,
     visible: &mut Visible<'t>,

@@ -13,7 +13,7 @@ use Rattle.hv_tree.specs.declared.ast.StmtKind.{StmtKind}
 use Rattle.hv_tree.specs.declared.ast.Arg.TheOpen.{Step-F}
 use Rattle.hv_tree.specs.Core.{CoreSteps, NoSteps, core_step, core_steps}
 use Rattle.hv_tree.proofs.CoreLemmas as lemmas
-use Rattle.hv_scope.proofs.Firsts.{first_left}
+use Rattle.hv_lemmas.proofs.Lists.{first_left}
 use Rattle.hv_typing.specs.Tests as tests
 
 abbrev pub StepLayer : Type 0

@@ -5,9 +5,6 @@ use Rattle.std.proofs.lemmas.List.{reverse-append, length-reverse, get_or-revers
 use Rattle.std.proofs.lemmas.Grind.{reverse_onto}
 use Rattle.hv_versions.specs.Stacks.{first_of, rest_of, with_first}
 
-pub stacked : {A : Type 0} (xs : List A) (x : A) → reverse (xs ++ x ∷ []) ≡ x ∷ reverse xs
-stacked xs x = reverse-append xs (x ∷ [])
-
 pub length_reversed : {A : Type 0} (xs : List A) → length (reverse xs) ≡ length xs
 length_reversed xs = length-reverse xs
 

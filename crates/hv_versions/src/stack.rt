@@ -37,7 +37,7 @@ impl<T> Stack<T> {
         self.list.len()
     }
 
-    #[tactic(auto, using(crate::proofs::Stacks::stacked))]
+    #[tactic(auto, using(hv_lemmas::proofs::Reversed::stacked))]
     pub fn pop(&mut self) -> Option<T>
         ensures first { result ≡ first_of self.old }
         ensures rest { self.new ≡ rest_of self.old }
@@ -74,7 +74,7 @@ impl<T: Copy> Stack<T> {
 }
 
 impl<T: Drop> Stack<T> {
-    #[tactic(auto, using(crate::proofs::Stacks::stacked))]
+    #[tactic(auto, using(hv_lemmas::proofs::Reversed::stacked))]
     pub fn push(&mut self, item: T) -> Result<(), NoMemory>
         ensures ok { OnOk result (self.new ≡ item ∷ self.old) }
         ensures err { OnErr result (self.new ≡ self.old) }

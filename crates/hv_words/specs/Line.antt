@@ -1,6 +1,5 @@
 -- How the words are read one by one, for the functions inside.
-use Rattle.std.specs.Prelude.{◌≡◌, ⊤, Result, Ok, Err, Bool, true, false, List, [], ◌∷◌, ◌++◌, map}
-use Rattle.std.specs.Prelude.{Option, Some, None, option_map, option_and_then, if◌then◌else◌}
+use Rattle.std.specs.Prelude.{◌≡◌, ⊤, Result, Ok, Err, Bool, true, false, List, [], ◌∷◌, ◌++◌, map, Option, Some, None, option_map, option_and_then, if◌then◌else◌}
 use Rattle.clap.specs.Lexer.{strip_byte}
 use Rattle.hv_words.specs.Taken.{Form, Setting, Word, flag_words, is_among, is_number, is_positional, option_words}
 use Rattle.hv_words.specs.declared.line.Line.{Line}

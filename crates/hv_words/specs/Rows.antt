@@ -1,6 +1,5 @@
 -- Which rows of the table `clap` reads rightly, as a test that computes.
-use Rattle.std.specs.Prelude.{◌==◌, ◌&&◌, ◌^◌, Bool, true, false, ℕ, List, length, map, nat_lt, not}
-use Rattle.std.specs.Prelude.{Option, Some, None, find}
+use Rattle.std.specs.Prelude.{◌==◌, ◌&&◌, ◌^◌, Bool, true, false, ℕ, List, length, map, nat_lt, not, Option, Some, None, find}
 use Rattle.std.specs.List.{before_first, list_all}
 use Rattle.std.specs.Option.{option_map_or}
 use Rattle.std.specs.Str.{bytes_eq}

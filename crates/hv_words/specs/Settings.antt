@@ -1,11 +1,9 @@
 -- What clap makes of the words that are left.
-use Rattle.std.specs.Prelude.{◌≡◌, ◌<◌, ◌≤◌, ◌^◌, ℕ, Bool, true, List, [], ◌∷◌, codes}
-use Rattle.std.specs.Prelude.{Option, Some, None, Result, Ok, Err, if◌then◌else◌}
+use Rattle.std.specs.Prelude.{◌≡◌, ◌<◌, ◌≤◌, ◌^◌, ℕ, Bool, true, List, [], ◌∷◌, codes, Option, Some, None, Result, Ok, Err, if◌then◌else◌}
 use Rattle.std.specs.Borrow.{Bor}
 use Rattle.std.specs.List.{Contains}
 use Rattle.clap.specs.Words.{found_of, one_text}
-use Rattle.hv_words.specs.Taken.{AllFit, AreNew, Form, Item, Setting, SetsEach, Word, dashed, flag}
-use Rattle.hv_words.specs.Taken.{has_flag, is_number, number_of, option, positional, value_of}
+use Rattle.hv_words.specs.Taken.{AllFit, AreNew, Form, Item, Setting, SetsEach, Word, dashed, flag, has_flag, is_number, number_of, option, positional, value_of}
 use Rattle.hv_words.specs.declared.order.WordsEnd.{WordsEnd}
 use Rattle.hv_words.specs.declared.order.WordsEnd.TheVariants.{Usage, NoMemory}
 use Rattle.hv_words.specs.declared.settings.Settings.{Settings}

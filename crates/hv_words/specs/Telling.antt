@@ -1,8 +1,6 @@
 -- What the functions inside make of the words behind a name.
-use Rattle.std.specs.Prelude.{◌≡◌, ◌&&◌, ℕ, List, nat_le, map, if◌then◌else◌}
-use Rattle.std.specs.Prelude.{Option, Some, None, Result, Ok, Err}
-use Rattle.hv_words.specs.Taken.{Form, Says, Word, is_number, number_of}
-use Rattle.hv_words.specs.Taken.{Said}
+use Rattle.std.specs.Prelude.{◌≡◌, ◌&&◌, ℕ, List, nat_le, map, if◌then◌else◌, Option, Some, None, Result, Ok, Err}
+use Rattle.hv_words.specs.Taken.{Form, Says, Word, is_number, number_of, Said}
 use Rattle.hv_words.specs.Settings.{entry_of}
 use Rattle.hv_words.specs.declared.order.WordsEnd.{WordsEnd}
 use Rattle.hv_words.specs.declared.order.WordsEnd.TheVariants.{Usage, NoMemory}

@@ -1,9 +1,7 @@
 //! One pass over the words behind the subcommand: it takes off the positional, and refuses a word
 //! that has no place there.
 ghost use Rattle.std.specs.Prelude.{◌≡◌, Some, map, string_bytes};
-ghost use Rattle.hv_words.specs.Line.{form_of, line_of, nothing_seen, seen_of};
-ghost use Rattle.hv_words.specs.Line.{ended, file_step, name_step, step, value_step};
-ghost use Rattle.hv_words.specs.Line.{Parts, Steps, kept, noted};
+ghost use Rattle.hv_words.specs.Line.{form_of, line_of, nothing_seen, seen_of, ended, file_step, name_step, step, value_step, Parts, Steps, kept, noted};
 
 use crate::number::is_number;
 use crate::order::WordsEnd;

@@ -3,8 +3,7 @@ ghost use Rattle.std.specs.Prelude.{◌≡◌, IfOk, MatchResult, false, map, tr
 ghost use Rattle.clap.specs.Words.{app_of, kind_of, rule_of};
 ghost use Rattle.hv_words.specs.Line.{form_of, setting_of};
 ghost use Rattle.hv_words.specs.Rows.{is_sound};
-ghost use Rattle.hv_words.specs.Settings.{AreMarksOf, AreNumbersOf, Lacks, entry_of};
-ghost use Rattle.hv_words.specs.Settings.{IsMarkOf, IsNumberOf, ReadsLeft, text_at};
+ghost use Rattle.hv_words.specs.Settings.{AreMarksOf, AreNumbersOf, Lacks, entry_of, IsMarkOf, IsNumberOf, ReadsLeft, text_at};
 ghost use Rattle.hv_words.specs.Reading.{app_by, bare_app, end_by, flag_rule, option_rule, with_rules};
 
 use crate::order::WordsEnd;

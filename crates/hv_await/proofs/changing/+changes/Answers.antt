@@ -4,7 +4,7 @@ use Rattle.hv_tree.specs.Core.{core_stmt, core_tree}
 use Rattle.hv_rules.specs.Locals.{binds, listed}
 use Rattle.hv_scope.specs.Known.{local_by}
 use Rattle.hv_scope.specs.Oldest.{oldest}
-use Rattle.hv_scope.proofs.Added.{extended, nothing_added}
+use Rattle.hv_lemmas.proofs.Lists.{extended, nothing_added}
 use Rattle.hv_scope.proofs.OldestLemmas.{oldest_same, oldest_twice}
 use Rattle.hv_await.specs.Changing.{changes_in_stmt, changes_in_stmts}
 use Rattle.hv_await.proofs.Changes as parts

@@ -1,7 +1,7 @@
 use Rattle.std.proofs.Common.{◌++◌, map, sym, ap, ◌∙◌}
 use Rattle.hv_tree.specs.Core.{core_tree}
 use Rattle.hv_scope.specs.Known.{local_by}
-use Rattle.hv_scope.proofs.Added.{nothing_added}
+use Rattle.hv_lemmas.proofs.Lists.{nothing_added}
 use Rattle.hv_await.proofs.Changes.{call_changing, call_unchanging}
 use Rattle.hv_await.proofs.changing.judge_task.Goals as goal
 

@@ -3,7 +3,7 @@ use Rattle.hv_tree.specs.Core.{core_tree}
 use Rattle.hv_rules.specs.Locals.{CoreBody}
 use Rattle.hv_scope.specs.Bodies.{body_by}
 use Rattle.std.proofs.Math.ListN.{drop_of_length-le}
-use Rattle.hv_scope.proofs.Firsts.{first_left}
+use Rattle.hv_lemmas.proofs.Lists.{first_left}
 use Rattle.hv_await.specs.Found.{Adds, OfBody, OfBodies}
 use Rattle.hv_await.proofs.Phase.{adds_both, adds_nothing}
 use Rattle.hv_await.proofs.judge.judge_bodies.Goals as goal

@@ -1,6 +1,6 @@
 use Rattle.std.proofs.Common.{◌+◌, false, List, ◌++◌, map, refl, sym, ap, ◌∙◌}
 use Rattle.std.proofs.lemmas.Result.{on_ok_weaker}
-use Rattle.hv_scope.proofs.Added.{nothing_added}
+use Rattle.hv_lemmas.proofs.Lists.{nothing_added}
 use Rattle.hv_ends.specs.declared.span.Span.{Span}
 use Rattle.hv_ends.specs.declared.span.End.{End}
 use Rattle.hv_ends.specs.declared.walk.Opened.{Opened}

@@ -1,5 +1,5 @@
 use Rattle.std.proofs.Common.{◌++◌, ap, ◌∙◌}
-use Rattle.hv_scope.proofs.Added.{extended}
+use Rattle.hv_lemmas.proofs.Lists.{extended}
 use Rattle.hv_ends.specs.Ends.{numbers_in}
 use Rattle.hv_ends.proofs.Walks.{more_numbers, handles_left}
 use Rattle.hv_ends.proofs.walk.handles_of.Goals as goal

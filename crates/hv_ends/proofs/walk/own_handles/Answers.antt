@@ -1,6 +1,6 @@
 use Rattle.std.proofs.Common.{◌++◌, ◌+◌, ap, ◌∙◌, drop}
 use Rattle.hv_tree.specs.Core.{core_stmts}
-use Rattle.hv_scope.proofs.Added.{extended}
+use Rattle.hv_lemmas.proofs.Lists.{extended}
 use Rattle.hv_ends.specs.Ends.{numbers_in}
 use Rattle.hv_ends.specs.Walked as spec
 use Rattle.hv_ends.proofs.Walks.{handles_next}

@@ -1,4 +1,4 @@
-use Rattle.hv_scope.proofs.Added.{nothing_added}
+use Rattle.hv_lemmas.proofs.Lists.{nothing_added}
 use Rattle.hv_ends.specs.Ends.{numbers_in}
 use Rattle.hv_ends.proofs.Variants as parts
 use Rattle.hv_ends.proofs.walk.push_back.Goals as goal

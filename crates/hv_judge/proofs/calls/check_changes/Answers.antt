@@ -1,7 +1,7 @@
 use Rattle.std.proofs.Common.{◌++◌, ◌+◌, drop, sym, ap, ◌∙◌}
 use Rattle.hv_typing.specs.Held.{wants_by}
 use Rattle.hv_judge.specs.Seen as seen
-use Rattle.hv_judge.proofs.Added.{extended}
+use Rattle.hv_lemmas.proofs.Lists.{extended}
 use Rattle.hv_judge.proofs.Args.{next_t7}
 use Rattle.hv_judge.proofs.calls.check_changes.Goals as goal
 

@@ -1,4 +1,4 @@
-use Rattle.hv_judge.proofs.Added.{extended}
+use Rattle.hv_lemmas.proofs.Lists.{extended}
 use Rattle.hv_judge.proofs.Args.{next_t6}
 use Rattle.hv_judge.proofs.calls.check_lents.Goals as goal
 

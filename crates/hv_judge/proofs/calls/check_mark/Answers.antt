@@ -4,7 +4,7 @@ use Rattle.hv_tree.specs.declared.ast.Expr.{out-Expr}
 use Rattle.hv_typing.specs.Held.{ty_by, wanted_next, wants_by}
 use Rattle.hv_judge.specs.Judged as spec
 use Rattle.hv_judge.specs.Seen as seen
-use Rattle.hv_judge.proofs.Added.{nothing}
+use Rattle.hv_lemmas.proofs.Lists.{nothing}
 use Rattle.hv_judge.proofs.Args.{no_mark, value_mark, lent_mark}
 use Rattle.hv_judge.proofs.calls.check_mark.Goals as goal
 

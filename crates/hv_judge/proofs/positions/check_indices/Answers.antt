@@ -2,7 +2,7 @@ use Rattle.std.proofs.Common.{◌++◌, ◌+◌, drop, ap, ◌∙◌}
 use Rattle.std.specs.Option.{option_copied}
 use Rattle.hv_scope.specs.Known.{typed}
 use Rattle.hv_judge.specs.Seen as seen
-use Rattle.hv_judge.proofs.Added.{extended}
+use Rattle.hv_lemmas.proofs.Lists.{extended}
 use Rattle.hv_judge.proofs.Steps.{next_t1}
 use Rattle.hv_judge.proofs.positions.check_indices.Goals as goal
 

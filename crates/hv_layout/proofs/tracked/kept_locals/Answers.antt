@@ -1,7 +1,6 @@
-use Rattle.std.proofs.Common.{inl, inr, arith}
+use Rattle.std.proofs.Common.{inl, inr, arith, map}
 use Rattle.hv_scope.specs.Known.{local_by}
 use Rattle.hv_init_law.specs.Plain.{kept}
-use Rattle.std.proofs.Common.{map}
 use Rattle.hv_layout.specs.Tracked.{flag_at}
 use Rattle.hv_layout.proofs.Tracking.{kept_all}
 use Rattle.hv_layout.proofs.tracked.kept_locals.Goals.{in_default, in-len1-up+in_default-left_flags}

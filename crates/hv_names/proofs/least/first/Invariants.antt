@@ -1,6 +1,6 @@
 use Rattle.std.proofs.Common.{take}
 use Rattle.hv_rules.specs.Earlier.{IsFirst}
-use Rattle.hv_names.proofs.Members.{Among}
+use Rattle.hv_lemmas.proofs.Members.{Among}
 use Rattle.hv_names.proofs.least.first.Given as goal
 
 abbrev pub invariant-loop-refusal : goal.invariant-loop-refusal

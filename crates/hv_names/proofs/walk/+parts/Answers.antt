@@ -1,6 +1,6 @@
 use Rattle.std.proofs.Common.{◌≡◌, ◌++◌, drop, ap, ◌∙◌, ◌+◌}
 use Rattle.hv_names.specs.Parts as parts
-use Rattle.hv_names.proofs.Lists.{extended}
+use Rattle.hv_lemmas.proofs.Lists.{extended}
 use Rattle.hv_names.proofs.Parts.{steps_next, args_next, branches_next}
 use Rattle.hv_names.proofs.walk.+parts.Goals as goal
 

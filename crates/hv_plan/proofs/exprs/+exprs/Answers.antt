@@ -3,8 +3,7 @@ use Rattle.std.proofs.lemmas.Grind.{common_steps}
 use Rattle.hv_plan.specs.declared.plan.FlowOp.TheVariants as op
 use Rattle.hv_plan.specs.Scopes.{tree_in, locals_in, callee_by}
 use Rattle.hv_plan.specs.Plans as plans
-use Rattle.hv_scope.proofs.Firsts.{first_left}
-use Rattle.hv_scope.proofs.Added.{extended, two_added}
+use Rattle.hv_lemmas.proofs.Lists.{first_left, extended, two_added}
 use Rattle.hv_plan.proofs.ExprPlans as parts
 use Rattle.hv_plan.proofs.exprs.+exprs.Goals as goal
 

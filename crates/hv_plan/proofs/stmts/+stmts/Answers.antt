@@ -3,7 +3,7 @@ use Rattle.std.proofs.lemmas.Grind.{common_steps}
 use Rattle.hv_plan.specs.declared.plan.FlowOp.TheVariants as op
 use Rattle.hv_plan.specs.Scopes.{tree_in, locals_in}
 use Rattle.hv_plan.specs.StmtPlans as plans
-use Rattle.hv_scope.proofs.Added.{extended, two_added}
+use Rattle.hv_lemmas.proofs.Lists.{extended, two_added}
 use Rattle.hv_plan.proofs.StmtLemmas as parts
 use Rattle.hv_plan.proofs.VariantPlans as variants
 use Rattle.hv_plan.proofs.stmts.+stmts.Goals as goal

@@ -5,7 +5,7 @@ use Rattle.hv_rules.specs.Locals.{binds, listed}
 use Rattle.hv_scope.specs.Known.{local_by}
 use Rattle.hv_scope.specs.Oldest.{oldest}
 use Rattle.hv_scope.specs.Bodies.{body_by, stmt_bodies, stmts_bodies}
-use Rattle.hv_scope.proofs.Added.{extended, nothing_added}
+use Rattle.hv_lemmas.proofs.Lists.{extended, nothing_added}
 use Rattle.hv_scope.proofs.BodyVariants as parts
 use Rattle.hv_scope.proofs.OldestLemmas.{oldest_same, oldest_twice}
 use Rattle.hv_scope.proofs.bodies.+bodies.Goals as goal

@@ -1,6 +1,6 @@
 use Rattle.std.proofs.Common.{map}
 use Rattle.hv_scope.specs.Bodies.{body_by}
-use Rattle.hv_scope.proofs.Added.{nothing_added}
+use Rattle.hv_lemmas.proofs.Lists.{nothing_added}
 use Rattle.hv_scope.proofs.DeclBodies.{struct_alone}
 use Rattle.hv_scope.proofs.bodies.add_decl.Goals as goal
 

@@ -1,6 +1,6 @@
 use Rattle.std.proofs.Common.{map}
 use Rattle.hv_scope.specs.Bodies.{body_by}
-use Rattle.hv_scope.proofs.Added.{extended}
+use Rattle.hv_lemmas.proofs.Lists.{extended}
 use Rattle.hv_scope.proofs.DeclBodies.{decls_next}
 use Rattle.hv_scope.proofs.bodies.add_decls.Goals as goal
 

@@ -1,7 +1,7 @@
 use Rattle.std.proofs.Common.{map, arith}
 use Rattle.std.proofs.lemmas.Grind.{common_steps}
 use Rattle.hv_scope.specs.Known.{local_by}
-use Rattle.hv_scope.proofs.Added.{nothing_added}
+use Rattle.hv_lemmas.proofs.Lists.{nothing_added}
 use Rattle.hv_scope.proofs.LocalLemmas as parts
 use Rattle.hv_scope.proofs.listed.+locals.Goals as goal
 

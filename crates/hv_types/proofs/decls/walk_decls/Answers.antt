@@ -1,4 +1,4 @@
-use Rattle.hv_judge.proofs.Added.{extended}
+use Rattle.hv_lemmas.proofs.Lists.{extended}
 use Rattle.hv_types.proofs.Walks.{decls_next}
 use Rattle.hv_types.proofs.decls.walk_decls.Goals as goal
 

@@ -5,7 +5,7 @@ use Rattle.hv_tree.specs.Core.{core_stmt}
 use Rattle.hv_rules.specs.Locals.{binds, listed}
 use Rattle.hv_scope.specs.Oldest.{oldest}
 use Rattle.hv_scope.specs.Known.{local_by}
-use Rattle.hv_judge.proofs.Added.{extended, three}
+use Rattle.hv_lemmas.proofs.Lists.{extended, three}
 use Rattle.hv_types.specs.Walked as walked
 use Rattle.hv_types.proofs.Walks.{call_split, exprs_next, links_next, steps_next, args_next, branches_next, stmts_next}
 use Rattle.hv_types.proofs.walk.+parts.Goals as goal
