@@ -14,7 +14,7 @@ use Rattle.hv_tree.specs.declared.ast.Stmt.{Stmt, out-Stmt}
 use Rattle.hv_tree.specs.declared.ast.StmtKind.TheVariants as stmt
 use Rattle.hv_tree.specs.Core.{Core, CoreSteps, core_steps, core_stmt, core_branches}
 use Rattle.hv_tree.proofs.CoreLemmas as lemmas
-use Rattle.hv_rules.specs.Locals.{Local, binds, listed}
+use Rattle.hv_decls.specs.Locals.{Local, binds, listed}
 use Rattle.hv_lemmas.proofs.Lists.{first_left}
 use Rattle.hv_await.specs.Acts.{refusal}
 use Rattle.hv_await.specs.Changing as spec

@@ -8,8 +8,8 @@ use Rattle.hv_tree.specs.Core.{Core}
 use Rattle.hv_rules.specs.declared.event.FlowEvent.{FlowEvent}
 use Rattle.hv_rules.specs.declared.event.FlowEvent.TheVariants as event
 use Rattle.hv_rules.specs.Flow.{Flow, Skip, Do, Stop, Then, Either, Loop, IsTrace}
-use Rattle.hv_rules.specs.Earlier.{IsFirst}
-use Rattle.hv_rules.specs.Locals.{CoreBody}
+use Rattle.hv_tree.specs.Earlier.{IsFirst}
+use Rattle.hv_decls.specs.Locals.{CoreBody}
 use Rattle.hv_rules.specs.Events.{Belongs, Mark, Events, body_events}
 use Rattle.hv_rules.specs.States.{HandleState, NotSpawned, Spawned, Awaited, State, start, after_event, after, state_after}
 use Rattle.hv_rules.specs.Rules.{handles_at, IsViolatedIn}

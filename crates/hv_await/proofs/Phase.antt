@@ -5,15 +5,15 @@ use Rattle.hv_tree.specs.declared.refusal.Rule.{Rule}
 use Rattle.hv_tree.specs.declared.refusal.Rule.TheVariants as rule
 use Rattle.hv_tree.specs.declared.refusal.Refusal.{Refusal}
 use Rattle.hv_tree.specs.Core.{Core, CoreCall, CallOf, CoreBlock, BlockOf, CoreStmts, NoStmts, StmtOf, CoreBranches, NoElse, Else, BranchOf, CoreStmt, Var, VarWith, Let, Inout, Assign, If, While, Return, ReturnWith, Print, Task, AwaitsAlone, CallsAlone, Bare}
-use Rattle.hv_rules.specs.Locals.{Local, CoreBody, entry_locals, binds}
-use Rattle.hv_rules.specs.Locals as locals
-use Rattle.hv_rules.specs.Earlier.{NotAfter, IsFirst}
-use Rattle.hv_rules.specs.Sites.{bodies_of}
+use Rattle.hv_decls.specs.Locals.{Local, CoreBody, entry_locals, binds}
+use Rattle.hv_decls.specs.Locals as locals
+use Rattle.hv_tree.specs.Earlier.{NotAfter, IsFirst}
+use Rattle.hv_decls.specs.Sites.{bodies_of}
 use Rattle.hv_rules.specs.Rules.{in_body, at_task}
-use Rattle.hv_rules.specs.TypeRules.{at_part, at_struct}
+use Rattle.hv_type_rules.specs.TypeRules.{at_part, at_struct}
 use Rattle.hv_rules.specs.Accepted.{HandlePhase, phase_of, IsViolated, IsViolatedInPhase}
 use Rattle.hv_lemmas.proofs.Members.{Among, in_left, in_right, either_in, listed, contained}
-use Rattle.hv_names.proofs.Firsts.{through}
+use Rattle.hv_tree.proofs.Orders.{through}
 use Rattle.hv_pass.proofs.Firsts.{same_first}
 use Rattle.hv_await.specs.Acts.{refusal}
 use Rattle.hv_await.specs.Changing.{if_so, takes_change, call_changes, stmt_changes, branch_changes, block_changes, stmts_changes, body_changes}

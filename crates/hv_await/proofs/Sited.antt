@@ -6,10 +6,10 @@ use Rattle.hv_tree.specs.declared.refusal.Refusal.{Refusal}
 use Rattle.hv_tree.specs.declared.types.Conv.{Conv}
 use Rattle.hv_tree.specs.declared.types.Conv.TheVariants as conv
 use Rattle.hv_tree.specs.Core.{Core, CoreDecl, StructOf, FunOf, CoreExpr, Number, Truth, Path, Calls, Awaits, Array, Filled, Count, Lambda, Prefix, Chain, CoreExprs, NoExprs, ExprOf, CoreLinks, NoLinks, LinkOf, CoreSteps, NoSteps, FieldStep, IndexStep, CoreCall, CallOf, CoreArgs, NoArgs, ValueArg, RefArg, CoreBlock, BlockOf, CoreStmts, NoStmts, StmtOf, CoreBranches, NoElse, Else, BranchOf, CoreStmt, Var, VarWith, Let, Inout, Assign, If, While, Return, ReturnWith, Print, Task, AwaitsAlone, CallsAlone, Bare}
-use Rattle.hv_rules.specs.Locals.{CoreBody, fun_body, local_in}
+use Rattle.hv_decls.specs.Locals.{CoreBody, fun_body, local_in}
 use Rattle.hv_rules.specs.Events.{callee_by}
 use Rattle.hv_rules.specs.Rules.{Changes, convs_or_none, TakesChange, SpawnsChange, ViolatesS3}
-use Rattle.hv_rules.specs.Sites.{ExprPart, CallPart, PlacePart, StmtPart, TestPart, Scope, Site, site, scope_behind, body_scope, lambda_body, expr_sites, exprs_sites, link_sites, step_sites, call_sites, arg_sites, block_sites, stmts_sites, branch_sites, stmt_sites, sites_of_body, decl_sites, sites_of, body_by, lambdas_at, decl_bodies, bodies_of}
+use Rattle.hv_decls.specs.Sites.{ExprPart, CallPart, PlacePart, StmtPart, TestPart, Scope, Site, site, scope_behind, body_scope, lambda_body, expr_sites, exprs_sites, link_sites, step_sites, call_sites, arg_sites, block_sites, stmts_sites, branch_sites, stmt_sites, sites_of_body, decl_sites, sites_of, body_by, lambdas_at, decl_bodies, bodies_of}
 use Rattle.hv_lemmas.proofs.Members.{Among, in_left, in_right, either_in, listed, contained}
 use Rattle.hv_await.specs.Acts.{refusal}
 use Rattle.hv_await.specs.Changing.{is_change, any_change, if_so, takes_change, call_changes, stmt_changes, branch_changes, block_changes, stmts_changes, body_changes}

@@ -10,8 +10,8 @@ use Rattle.hv_tree.specs.declared.ast.Branch.{Branch, out-Branch}
 use Rattle.hv_tree.specs.declared.ast.Call.{Call}
 use Rattle.hv_tree.specs.declared.ast.Stmt.{Stmt}
 use Rattle.hv_tree.specs.Core.{Core, CoreSteps, CoreCall, CallOf, CoreBlock, BlockOf, CoreStmts, NoStmts, StmtOf, CoreBranches, NoElse, Else, BranchOf, CoreStmt, Var, VarWith, Let, Inout, Assign, If, While, Return, ReturnWith, Print, Task, AwaitsAlone, CallsAlone, Bare, core_param, core_call, core_block, core_stmt, core_stmts, core_tys_of}
-use Rattle.hv_rules.specs.Types.{convs_of, params_meant}
-use Rattle.hv_rules.specs.Locals.{Local, binds, listed, local_in, CoreBody, entry_locals}
+use Rattle.hv_decls.specs.Types.{convs_of, params_meant}
+use Rattle.hv_decls.specs.Locals.{Local, binds, listed, local_in, CoreBody, entry_locals}
 use Rattle.hv_rules.specs.Events.{callee_by}
 use Rattle.hv_rules.specs.Events as events
 use Rattle.hv_rules.specs.Rules.{convs_or_none}

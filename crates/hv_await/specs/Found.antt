@@ -4,8 +4,8 @@ use Rattle.hv_tree.specs.declared.refusal.Rule.{Rule}
 use Rattle.hv_tree.specs.declared.refusal.Rule.TheVariants as rule
 use Rattle.hv_tree.specs.declared.refusal.Refusal.{Refusal}
 use Rattle.hv_tree.specs.Core.{Core}
-use Rattle.hv_rules.specs.Earlier.{NotAfter}
-use Rattle.hv_rules.specs.Locals.{CoreBody}
+use Rattle.hv_tree.specs.Earlier.{NotAfter}
+use Rattle.hv_decls.specs.Locals.{CoreBody}
 use Rattle.hv_rules.specs.Rules.{IsViolatedIn}
 use Rattle.hv_await.specs.Changing.{body_changes}
 

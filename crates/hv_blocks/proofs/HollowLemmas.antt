@@ -10,7 +10,7 @@ use Rattle.hv_tree.specs.declared.ast.Field.{Field}
 use Rattle.hv_tree.specs.declared.ast.StructDecl.{StructDecl}
 use Rattle.hv_tree.specs.Core.{Core, CoreTy, CoreStruct, core_ty, core_field}
 use Rattle.hv_tree.proofs.CoreLemmas as lemmas
-use Rattle.hv_rules.specs.Types.{ValueType, meant, shape, shapes_of, TypeShape, LeafShape, StructShape, struct_in, fields_or_none, field_types, type_of_field}
+use Rattle.hv_decls.specs.Types.{ValueType, meant, shape, shapes_of, TypeShape, LeafShape, StructShape, struct_in, fields_or_none, field_types, type_of_field}
 use Rattle.hv_value.specs.ValueTree.{ValueTree, Hole, Fields, Cons, row}
 use Rattle.hv_value.specs.Holes.{fields_or_hole}
 use Rattle.hv_copying.specs.Places.{hollow, hollows}

@@ -7,7 +7,7 @@ use Rattle.hv_copying.specs.Run.{Is, Halted, Trap, Stuck, ◌>>=◌, pure, stuck
 use Rattle.hv_copying.specs.Run as run
 use Rattle.hv_copying.specs.Calls.{Deeper, if_deeper, Child, budget_of}
 use Rattle.hv_copying.specs.Copying.{Locals, copying}
-use Rattle.hv_rules.specs.Locals.{locals_of}
+use Rattle.hv_decls.specs.Locals.{locals_of}
 use Rattle.hv_flat.specs.Accesses.{Plain}
 use Rattle.hv_flat.specs.Flat.{activations}
 use Rattle.hv_state.specs.declared.task.Task.{Task}

@@ -3,7 +3,7 @@ use Rattle.std.specs.Prelude.{ℕ}
 use Rattle.hv_tree.specs.declared.types.Ty.{Ty}
 use Rattle.hv_tree.specs.declared.ast.Field.{Field}
 use Rattle.hv_tree.specs.Core.{Core, core_ty}
-use Rattle.hv_rules.specs.Types.{meant, shape}
+use Rattle.hv_decls.specs.Types.{meant, shape}
 use Rattle.hv_value.specs.ValueTree.{ValueTree}
 use Rattle.hv_copying.specs.Places.{hollow}
 

@@ -2,7 +2,7 @@
 use Rattle.std.specs.Prelude.{Bool, if◌then◌else◌, List, [], ◌∷◌, ◌++◌, Option, Some, None}
 use Rattle.hv_tree.specs.declared.place.Place.{Place}
 use Rattle.hv_tree.specs.declared.types.Name.{Name}
-use Rattle.hv_rules.specs.Locals.{Local}
+use Rattle.hv_decls.specs.Locals.{Local}
 use Rattle.hv_value.specs.ValueTree.{ValueTree}
 use Rattle.hv_value.specs.Texts.{text}
 use Rattle.hv_copying.specs.Run.{Flow, ◌>>=◌, pure, pay, say}

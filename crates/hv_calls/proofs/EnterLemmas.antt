@@ -2,7 +2,7 @@
 use Rattle.std.proofs.Common.{◌≡◌, ◌<◌, ℕ, zero, suc, List, [], ◌∷◌, map, length, refl, sym, ap, ◌∙◌, arith}
 use Rattle.hv_tree.specs.declared.place.Place.{Place}
 use Rattle.hv_tree.specs.Core.{Core}
-use Rattle.hv_rules.specs.Locals.{CoreBody, locals_of}
+use Rattle.hv_decls.specs.Locals.{CoreBody, locals_of}
 use Rattle.hv_copying.specs.declared.end.TrapKind.TheVariants as trap_kind
 use Rattle.hv_copying.specs.Run.{Res, Is, Halted, Now, Trap, Flow, ◌>>=◌, after, and_then, mine, become, pure, trap, pay}
 use Rattle.hv_copying.specs.Ops as ops

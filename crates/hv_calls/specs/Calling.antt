@@ -8,7 +8,7 @@ use Rattle.hv_tree.specs.declared.ast.Call.{Call}
 use Rattle.hv_tree.specs.declared.ast.Step.{Step}
 use Rattle.hv_tree.specs.declared.ast.Param.{Param}
 use Rattle.hv_tree.specs.Core.{CoreExpr, CoreArgs, NoArgs, ValueArg, RefArg, CoreSteps, core_arg, core_args, core_call, core_param, core_steps}
-use Rattle.hv_rules.specs.Locals.{CoreBody, number_in}
+use Rattle.hv_decls.specs.Locals.{CoreBody, number_in}
 use Rattle.hv_value.specs.ValueTree.{ValueTree, Fields, Parts, row}
 use Rattle.hv_value.specs.Holes.{emptied}
 use Rattle.hv_copying.specs.declared.end.Cause.TheVariants.{Kinds}

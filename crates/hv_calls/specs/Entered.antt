@@ -1,7 +1,7 @@
 -- Bodies that are entered, at a level.
 use Rattle.std.specs.Prelude.{ℕ, List}
 use Rattle.hv_tree.specs.declared.place.Place.{Place}
-use Rattle.hv_rules.specs.Locals.{CoreBody}
+use Rattle.hv_decls.specs.Locals.{CoreBody}
 use Rattle.hv_copying.specs.Run.{Flow}
 use Rattle.hv_copying.specs.Ops as ops
 use Rattle.hv_copying.specs.Copying.{copying}

@@ -1,7 +1,7 @@
 // The run of a body that is entered.
 
 ghost use Rattle.std.specs.Prelude.{◌≡◌, ℕ, map};
-ghost use Rattle.hv_rules.specs.Locals.{CoreBody};
+ghost use Rattle.hv_decls.specs.Locals.{CoreBody};
 ghost use Rattle.hv_state.specs.Gives.{Gives, from};
 ghost use Rattle.hv_level.specs.Level.{flow_of};
 ghost use Rattle.hv_level.specs.Nests.{Bodies};

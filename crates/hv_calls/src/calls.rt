@@ -1,7 +1,7 @@
 // Calls: the callee, then the arguments, then the body.
 
 ghost use Rattle.std.specs.Prelude.{◌≡◌, ℕ, [], map};
-ghost use Rattle.hv_rules.specs.Locals.{CoreBody};
+ghost use Rattle.hv_decls.specs.Locals.{CoreBody};
 ghost use Rattle.hv_copying.specs.Calls as calls;
 ghost use Rattle.hv_held.specs.HeldTree.{held_tree, held_trees};
 ghost use Rattle.hv_state.specs.Gives.{Gives, from};

@@ -5,7 +5,7 @@ use Rattle.hv_tree.specs.declared.refusal.Rule.{Rule}
 use Rattle.hv_tree.specs.declared.refusal.Rule.TheVariants as rule
 use Rattle.hv_tree.specs.declared.refusal.Refusal.{Refusal}
 use Rattle.hv_tree.specs.Core.{Core}
-use Rattle.hv_rules.specs.Earlier.{number_of, NotAfter, IsFirst}
+use Rattle.hv_tree.specs.Earlier.{number_of, NotAfter, IsFirst}
 use Rattle.hv_rules.specs.Accepted.{Phase, IsViolatedInPhase, IsFirstOf}
 
 -- each rule at its number

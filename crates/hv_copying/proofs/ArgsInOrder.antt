@@ -5,8 +5,8 @@ use Rattle.hv_tree.specs.declared.place.Place.{Place}
 use Rattle.hv_tree.specs.declared.types.Conv.{Conv}
 use Rattle.hv_tree.specs.declared.types.Conv.TheVariants as conv
 use Rattle.hv_tree.specs.Core.{Core, CoreParam, CoreArgs, NoArgs, ValueArg, RefArg}
-use Rattle.hv_rules.specs.Locals.{Local, CoreBody, locals_of}
-use Rattle.hv_rules.specs.Sites.{bodies_of}
+use Rattle.hv_decls.specs.Locals.{Local, CoreBody, locals_of}
+use Rattle.hv_decls.specs.Sites.{bodies_of}
 use Rattle.hv_value.specs.ValueTree.{ValueTree, Parts}
 use Rattle.hv_value.specs.Holes.{emptied}
 use Rattle.hv_copying.specs.declared.end.TrapKind.{TrapKind}

@@ -6,9 +6,9 @@ use Rattle.hv_tree.specs.declared.types.Name.{Name}
 use Rattle.hv_tree.specs.declared.types.Conv.{Conv}
 use Rattle.hv_tree.specs.declared.types.Conv.TheVariants as conv
 use Rattle.hv_tree.specs.Core.{Core, CoreFun, CoreStruct, CoreTy, CoreSteps, NoSteps, FieldStep, IndexStep}
-use Rattle.hv_rules.specs.Types.{fun_in, struct_in}
-use Rattle.hv_rules.specs.Locals.{Local, CoreBody, locals_of, number_in}
-use Rattle.hv_rules.specs.Sites.{bodies_of}
+use Rattle.hv_decls.specs.Types.{fun_in, struct_in}
+use Rattle.hv_decls.specs.Locals.{Local, CoreBody, locals_of, number_in}
+use Rattle.hv_decls.specs.Sites.{bodies_of}
 use Rattle.hv_value.specs.ValueTree.{ValueTree, Hole, Number, Truth, Fields, Elements, Closure, Parts, Nil, Cons, row}
 use Rattle.hv_value.specs.Holes.{is_whole, emptied}
 use Rattle.hv_value.specs.Operators.{Given, Gives, Overflow, DivZero, BadLength, TooLong, filled, length_of}
@@ -20,7 +20,7 @@ use Rattle.hv_copying.specs.Run.{Run, Flow}
 use Rattle.hv_copying.specs.Ops.{Spot, Mode, Reads, Writes, Sets, Passed, Value, Lent, Ops}
 use Rattle.hv_copying.specs.Operations.{number, truth, given, applied, natural, filled_with}
 use Rattle.hv_copying.specs.Places.{body_number, type_of, whole, local, found, copied, moved, counted, all_of, all_found, declared, captured}
-use Rattle.hv_rules.specs.Events.{static_steps}
+use Rattle.hv_decls.specs.Statics.{static_steps}
 use Rattle.hv_copying.specs.Calls.{Callee, Constructs, Enters, Placed, Deeper, result_of, ended, value_callee, struct_callee, fun_callee, top_callee, body_of, callee, lent, pass_value, pass_place, own_value, if_deeper, entered, call_by, Child, child_by, budget_of, spawned}
 use Rattle.hv_copying.specs.Blocks.{chosen, turns, repeated, bound}
 use Rattle.hv_copying.specs.Evaluate.{function_value, top_value, named, if_local}

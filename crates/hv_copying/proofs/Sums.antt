@@ -5,19 +5,18 @@ use Rattle.std.specs.Str.{bytes_eq}
 use Rattle.hv_tree.specs.declared.place.Place.{Place}
 use Rattle.hv_tree.specs.declared.ast.Operator.{Operator}
 use Rattle.hv_tree.specs.declared.ast.Operator.TheVariants as operator
-use Rattle.hv_tree.specs.Core.{Core, CoreDecl, StructOf, FunOf, CoreFun, CoreTy, CoreExpr, Number, Truth, Path, Calls, Awaits, Array, Filled, Count, Lambda, Prefix, Chain, CoreLinks, NoLinks, LinkOf, CoreBlock, BlockOf, CoreStmts, NoStmts, StmtOf, CoreStmt, Print, Var, VarWith, Let, Inout, Assign, If, While, Return, ReturnWith, Task, AwaitsAlone, CallsAlone, Bare}
-use Rattle.hv_rules.specs.Locals.{Local, fun_body, locals_of}
-use Rattle.hv_rules.specs.Sites.{bodies_of, lambdas_at, sites_of_body}
-use Rattle.hv_rules.specs.Events.{end_of}
+use Rattle.hv_tree.specs.Core.{Core, CoreDecl, StructOf, FunOf, CoreFun, CoreTy, CoreExpr, Number, Truth, Path, Calls, Awaits, Array, Filled, Count, Lambda, Prefix, Chain, CoreLinks, NoLinks, LinkOf, CoreBlock, BlockOf, CoreStmts, NoStmts, StmtOf, CoreStmt, Print, Var, VarWith, Let, Inout, Assign, If, While, Return, ReturnWith, Task, AwaitsAlone, CallsAlone, Bare, end_of}
+use Rattle.hv_decls.specs.Locals.{Local, fun_body, locals_of}
+use Rattle.hv_decls.specs.Sites.{bodies_of, lambdas_at, sites_of_body}
 use Rattle.hv_value.specs.ValueTree.{ValueTree}
 use Rattle.hv_value.specs.ValueTree as v
-use Rattle.hv_value.specs.Operators.{Given, Gives, Overflow, in_range}
+use Rattle.hv_value.specs.Operators.{Given, Gives, Overflow, in_range, binary, decides}
 use Rattle.hv_value.specs.Operators as op
 use Rattle.hv_value.specs.Texts.{text}
 use Rattle.hv_copying.specs.declared.end.TrapKind.TheVariants as trap_kind
 use Rattle.hv_copying.specs.Run.{Res, Is, Halted, Trap, Spent, Stuck, after, Now, Run, Flow, and_then, ◌>>=◌, pure, trap, pay, say, counted_from}
 use Rattle.hv_copying.specs.Ops.{Ops}
-use Rattle.hv_copying.specs.Operations.{given, applied, binary, decides}
+use Rattle.hv_copying.specs.Operations.{given, applied}
 use Rattle.hv_copying.specs.Blocks.{first_token}
 use Rattle.hv_copying.specs.Places.{body_number, number_from}
 use Rattle.hv_copying.specs.Calls.{Deeper, ended}

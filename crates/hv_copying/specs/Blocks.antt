@@ -3,7 +3,7 @@ use Rattle.std.specs.Prelude.{ℕ, zero, suc, if◌then◌else◌, List, Some, N
 use Rattle.hv_tree.specs.declared.place.Place.{Place}
 use Rattle.hv_tree.specs.declared.types.Name.{Name}
 use Rattle.hv_tree.specs.Core.{CoreStmt, Var, VarWith, Let, Inout, Assign, If, While, Return, ReturnWith, Print, Task, AwaitsAlone, CallsAlone, Bare}
-use Rattle.hv_rules.specs.Locals.{Local}
+use Rattle.hv_decls.specs.Locals.{Local}
 use Rattle.hv_value.specs.ValueTree.{ValueTree}
 use Rattle.hv_copying.specs.Run.{Run, Flow, ◌>>=◌, pure, spent, pay, unless_left}
 use Rattle.hv_copying.specs.Ops.{Reads, Ops}

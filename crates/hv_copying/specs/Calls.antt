@@ -6,9 +6,9 @@ use Rattle.hv_tree.specs.declared.types.Name.{Name}
 use Rattle.hv_tree.specs.declared.types.Conv.{Conv}
 use Rattle.hv_tree.specs.declared.types.Conv.TheVariants as conv
 use Rattle.hv_tree.specs.Core.{Core, CoreFun, CoreStruct, CoreTy, CoreSteps, NoSteps, FieldStep, IndexStep}
-use Rattle.hv_rules.specs.Types.{fun_in, struct_in}
-use Rattle.hv_rules.specs.Locals.{CoreBody, locals_of}
-use Rattle.hv_rules.specs.Sites.{bodies_of}
+use Rattle.hv_decls.specs.Types.{fun_in, struct_in}
+use Rattle.hv_decls.specs.Locals.{CoreBody, locals_of}
+use Rattle.hv_decls.specs.Sites.{bodies_of}
 use Rattle.hv_value.specs.ValueTree.{ValueTree, Fields, Closure, Parts, Nil, Cons, row}
 use Rattle.hv_value.specs.Holes.{emptied}
 use Rattle.hv_copying.specs.declared.end.TrapKind.TheVariants as trap_kind

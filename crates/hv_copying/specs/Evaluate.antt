@@ -4,10 +4,10 @@ use Rattle.std.specs.List.{slice_get}
 use Rattle.hv_tree.specs.declared.place.Place.{Place}
 use Rattle.hv_tree.specs.declared.types.Name.{Name}
 use Rattle.hv_tree.specs.Core.{Core, CoreFun, CoreParam, CoreExpr, Number, Truth, Path, Calls, Awaits, Array, Filled, Count, Lambda, Prefix, Chain, CoreExprs, NoExprs, ExprOf, CoreLinks, NoLinks, LinkOf, CoreSteps, NoSteps, FieldStep, IndexStep, CoreCall, CallOf, CoreArgs, NoArgs, ValueArg, RefArg, CoreBlock, BlockOf, CoreStmts, NoStmts, StmtOf, CoreBranches, NoElse, Else, BranchOf, CoreStmt, Var, VarWith, Let, Inout, Assign, If, While, Return, ReturnWith, Print, Task, AwaitsAlone, CallsAlone, Bare}
-use Rattle.hv_rules.specs.Types.{ValueType, fun_in}
-use Rattle.hv_rules.specs.Locals.{Local, CoreBody, locals_of, number_in}
-use Rattle.hv_rules.specs.Sites.{bodies_of}
-use Rattle.hv_rules.specs.Events.{field_at, element_at}
+use Rattle.hv_decls.specs.Types.{ValueType, fun_in}
+use Rattle.hv_decls.specs.Locals.{Local, CoreBody, locals_of, number_in}
+use Rattle.hv_decls.specs.Sites.{bodies_of}
+use Rattle.hv_decls.specs.Statics.{field_at, element_at}
 use Rattle.hv_value.specs.ValueTree.{ValueTree, Fields, Elements, Closure, Parts, Nil, row}
 use Rattle.hv_value.specs.ValueTree as v
 use Rattle.hv_value.specs.Texts.{text}
@@ -15,7 +15,8 @@ use Rattle.hv_value.specs.Walk.{Link, ToField, ToIndex}
 use Rattle.hv_copying.specs.declared.end.Cause.TheVariants.{Kinds}
 use Rattle.hv_copying.specs.Run.{Run, Flow, ◌>>=◌, pure, stuck, known, pay, say, counted_from, unless_left}
 use Rattle.hv_copying.specs.Ops.{Spot, Writes, Passed, Ops}
-use Rattle.hv_copying.specs.Operations.{number, binary, unary, decides, applied, filled_with}
+use Rattle.hv_copying.specs.Operations.{number, applied, filled_with}
+use Rattle.hv_value.specs.Operators.{binary, unary, decides}
 use Rattle.hv_copying.specs.Places.{holes, body_number, type_of, local, found, copied, counted, declared, captured}
 use Rattle.hv_copying.specs.Calls.{Placed, Deeper, ended, passed_captures, callee, pass_value, pass_place, own_value, entered, call_by, Child, child_by, spawned}
 use Rattle.hv_copying.specs.Blocks.{first_token, chosen, repeated, bound}

@@ -2,7 +2,7 @@
 use Rattle.std.specs.Prelude.{ℕ, List, [], ◌∷◌, ◌++◌, Some, None}
 use Rattle.hv_tree.specs.declared.types.Name.{Name}
 use Rattle.hv_tree.specs.Core.{Core, CoreStmts, NoStmts, StmtOf, CoreStmt, Var, VarWith, Let, Inout, Assign, If, While, Return, ReturnWith, Print, Task, AwaitsAlone, CallsAlone, Bare}
-use Rattle.hv_rules.specs.Locals.{Local}
+use Rattle.hv_decls.specs.Locals.{Local}
 use Rattle.hv_value.specs.ValueTree.{ValueTree, Fields, Nil}
 use Rattle.hv_value.specs.Texts.{text}
 use Rattle.hv_copying.specs.Run.{Run, Flow, ◌>>=◌, pure, pay, say}

@@ -1,8 +1,8 @@
 -- The meaning of a program: what its root does with so many steps.
 use Rattle.std.specs.Prelude.{◌≡◌, ℕ, ◌-◌, true, [], ◌∷◌, Option, Some, None, option_and_then, is_some, codes}
 use Rattle.hv_tree.specs.Core.{Core}
-use Rattle.hv_rules.specs.Types.{fun_in}
-use Rattle.hv_rules.specs.Sites.{bodies_of}
+use Rattle.hv_decls.specs.Types.{fun_in}
+use Rattle.hv_decls.specs.Sites.{bodies_of}
 use Rattle.hv_copying.specs.Node.{Id, End, Done, Trapped, SpentAt, Node, NodeOf, nodes}
 use Rattle.hv_copying.specs.Run.{Task, Res, Is, Halted, Trap, Spent, Stuck, Now, Run, Flow}
 use Rattle.hv_copying.specs.Places.{body_number}

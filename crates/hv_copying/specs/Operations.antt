@@ -1,4 +1,4 @@
--- Operators, and values of the kind that is asked for.
+-- What an operator gives or how it traps, and values of the kind that is asked for.
 use Rattle.std.specs.Prelude.{ℕ, ℤ, pos, negsuc, Bool, false, not, Option, Some, None}
 use Rattle.hv_tree.specs.declared.place.Place.{Place}
 use Rattle.hv_tree.specs.declared.ast.Operator.{Operator}
@@ -21,33 +21,6 @@ truth (Truth b) = pure b
 truth _ = stuck Kinds
 
 -- ---- operators
-
-abbrev pub binary : Operator → ValueTree → ValueTree → Option Given
-binary operator.Add v w = of_numbers add v w
-binary operator.Sub v w = of_numbers subtract v w
-binary operator.Mul v w = of_numbers multiply v w
-binary operator.Div v w = of_numbers divide v w
-binary operator.Rem v w = of_numbers remainder v w
-binary operator.Eq v w = Some (equal v w)
-binary operator.Ne v w = Some (unequal v w)
-binary operator.Lt v w = of_numbers less v w
-binary operator.Le v w = of_numbers at_most v w
-binary operator.Gt v w = of_numbers greater v w
-binary operator.Ge v w = of_numbers at_least v w
-binary operator.And (Truth a) (Truth b) = Some (Gives (Truth b))
-binary operator.Or (Truth a) (Truth b) = Some (Gives (Truth b))
-binary _ v w = None
-
-abbrev pub unary : Operator → ValueTree → Option Given
-unary operator.Neg v = of_number negate v
-unary operator.Not v = of_truth opposite v
-unary _ v = None
-
--- `&&` and `||` stop at the operand that decides
-abbrev pub decides : Operator → ValueTree → Bool
-decides operator.And (Truth b) = not b
-decides operator.Or (Truth b) = b
-decides _ v = false
 
 -- the result, or the trap at this place
 abbrev pub given : {C S : Type 0} → Place → Given → Run C S ValueTree

@@ -1,7 +1,7 @@
 -- What a kind of state offers to the evaluator.
 use Rattle.std.specs.Prelude.{ℕ, List}
 use Rattle.hv_tree.specs.declared.place.Place.{Place}
-use Rattle.hv_rules.specs.declared.path.StaticStep.{StaticStep}
+use Rattle.hv_decls.specs.declared.path.StaticStep.{StaticStep}
 use Rattle.hv_value.specs.ValueTree.{ValueTree}
 use Rattle.hv_value.specs.Places.{Path}
 use Rattle.hv_value.specs.Walk.{Link}

@@ -2,10 +2,10 @@
 use Rattle.std.specs.Prelude.{ℕ, suc, ◌==◌, if◌then◌else◌, Bool, List, [], ◌∷◌, Option, Some, None}
 use Rattle.hv_tree.specs.declared.place.Place.{Place}
 use Rattle.hv_tree.specs.declared.types.Name.{Name}
-use Rattle.hv_tree.specs.Core.{Core, CoreTy, CoreSteps, CoreBlock}
-use Rattle.hv_rules.specs.Types.{ValueType, meant, most_depth, TypeShape, LeafShape, StructShape, TypeShapes, NoShapes, ShapeOf, shape}
-use Rattle.hv_rules.specs.Locals.{Local, CoreBody, number_in, local_in, value_of}
-use Rattle.hv_rules.specs.Events.{static_steps, end_of}
+use Rattle.hv_tree.specs.Core.{Core, CoreTy, CoreSteps, CoreBlock, end_of}
+use Rattle.hv_decls.specs.Types.{ValueType, meant, most_depth, TypeShape, LeafShape, StructShape, TypeShapes, NoShapes, ShapeOf, shape}
+use Rattle.hv_decls.specs.Locals.{Local, CoreBody, number_in, local_in, value_of}
+use Rattle.hv_decls.specs.Statics.{static_steps}
 use Rattle.hv_value.specs.ValueTree.{ValueTree, Hole, Parts, Nil, Cons}
 use Rattle.hv_value.specs.Holes.{is_whole, emptied, fields_or_hole}
 use Rattle.hv_value.specs.Sizes.{copy_cost}

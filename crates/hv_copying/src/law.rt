@@ -2,7 +2,7 @@
 ghost use Rattle.std.specs.Prelude.{◌≡◌, ◌≤◌, ◌+◌, ℕ, List, [], false, Some, IfSome};
 ghost use Rattle.hv_tree.specs.declared.place.Place.{Place};
 ghost use Rattle.hv_tree.specs.Core.{Core, CoreArgs, CoreStmts};
-ghost use Rattle.hv_rules.specs.Locals.{Local, CoreBody};
+ghost use Rattle.hv_decls.specs.Locals.{Local, CoreBody};
 ghost use Rattle.hv_value.specs.ValueTree.{Parts};
 ghost use Rattle.hv_copying.specs.Node.{Node, used, end_of};
 ghost use Rattle.hv_copying.specs.Run.{Now, counted_from};

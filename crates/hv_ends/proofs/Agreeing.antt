@@ -5,8 +5,9 @@ use Rattle.hv_tree.specs.declared.place.Place.{Place}
 use Rattle.hv_tree.specs.Core.{Core, CoreBlock, BlockOf, CoreStmts, NoStmts, StmtOf, CoreBranches, NoElse, Else, BranchOf, CoreStmt, Var, VarWith, Let, Inout, Assign, If, While, Return, ReturnWith, Print, Task, AwaitsAlone, CallsAlone, Bare}
 use Rattle.hv_rules.specs.declared.event.FlowEvent.TheVariants as event
 use Rattle.hv_rules.specs.Flow.{Skip, Do, Then, Either, Loop}
-use Rattle.hv_rules.specs.Locals.{Local, CoreBody, entry_locals, locals_of, declared_in, in_block, binds, number_in}
+use Rattle.hv_decls.specs.Locals.{Local, CoreBody, entry_locals, locals_of, declared_in, in_block, binds, number_in}
 use Rattle.hv_rules.specs.Events as events
+use Rattle.hv_tree.specs.Core as core
 use Rattle.hv_ends.specs.Ends.{ends_in, Alike, Agree, AllAgree}
 use Rattle.hv_ends.specs.Walked as walked
 use Rattle.hv_ends.proofs.Quiet.{IsPlain, IsTidy, Each, no_ends, all_tidy}
@@ -139,7 +140,7 @@ module _ (tree : Core) (locals : List Local) where
 pub body_fits : (tree : Core) (body : CoreBody) → Fits (walked.body_ends body) (events.body_events tree body)
 body_fits tree body =
     let n = walked.first_own body in
-    let stmts = events.stmts_in body.block in
+    let stmts = core.stmts_in body.block in
     let back = walked.entry_back body in
     let handles = walked.own_handles n stmts in
     after_plain (walked.body_ends body) (events.entry_events 0 (entry_locals body))

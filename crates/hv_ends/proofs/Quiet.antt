@@ -6,11 +6,12 @@ use Rattle.hv_tree.specs.declared.types.Name.{Name}
 use Rattle.hv_tree.specs.declared.types.Conv.{Conv}
 use Rattle.hv_tree.specs.declared.types.Conv.TheVariants as conv
 use Rattle.hv_tree.specs.Core.{Core, CoreExpr, Number, Truth, Path, Calls, Awaits, Array, Filled, Count, Lambda, Prefix, Chain, CoreExprs, NoExprs, ExprOf, CoreLinks, NoLinks, LinkOf, CoreSteps, NoSteps, FieldStep, IndexStep, CoreCall, CallOf, CoreArgs, NoArgs, ValueArg, RefArg}
-use Rattle.hv_rules.specs.declared.path.StaticPath.{StaticPath}
+use Rattle.hv_decls.specs.declared.path.StaticPath.{StaticPath}
 use Rattle.hv_rules.specs.declared.event.FlowEvent.TheVariants as event
 use Rattle.hv_rules.specs.Flow.{Skip, Do, Stop, Then, Either, Loop}
-use Rattle.hv_rules.specs.Locals.{LocalKind, Captured, Passed, VarBound, LetBound, InoutBound, Handle, Local, number_in, value_of}
+use Rattle.hv_decls.specs.Locals.{LocalKind, Captured, Passed, VarBound, LetBound, InoutBound, Handle, Local, number_in, value_of}
 use Rattle.hv_rules.specs.Events as events
+use Rattle.hv_decls.specs.Statics as statics
 use Rattle.hv_rules.specs.Rules.{back_at, handles_at, missing_at}
 use Rattle.hv_ends.specs.Ends.{is_end, if_end, ends_in}
 
@@ -111,7 +112,7 @@ chosen false f h = h
 module _ (tree : Core) (locals : List Local) where
   rooted : (does : events.Doing) (o : Option ℕ) (root : Name) (steps : CoreSteps) → Does does → Each IsPlain (events.on_root tree locals does o root steps)
   rooted does None root steps d = tt
-  rooted does (Some n) root steps d = d (record { root = n; steps = events.static_steps tree (value_of (events.local_of tree locals root)) steps }) root.place
+  rooted does (Some n) root steps d = d (record { root = n; steps = statics.static_steps tree (value_of (events.local_of tree locals root)) steps }) root.place
 
   pub awaited : (o : Option ℕ) (at : Place) → Each IsPlain (events.on_handle tree locals event.Await o at)
   awaited None at = tt

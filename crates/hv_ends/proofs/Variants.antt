@@ -12,7 +12,7 @@ use Rattle.hv_tree.specs.declared.ast.Stmt.{Stmt, out-Stmt}
 use Rattle.hv_tree.specs.declared.ast.StmtKind.TheVariants as stmt
 use Rattle.hv_tree.specs.Core.{CoreStmt, CoreBranches, core_stmt, core_stmts, core_block, core_branches}
 use Rattle.hv_tree.proofs.CoreLemmas as lemmas
-use Rattle.hv_rules.specs.Locals.{binds, declared_in, in_block, in_stmts}
+use Rattle.hv_decls.specs.Locals.{binds, declared_in, in_block, in_stmts}
 use Rattle.hv_rules.specs.Events.{Belongs, if_kind, is_written_back, is_handle}
 use Rattle.hv_scope.specs.Blocks.{tests_declare, else_declares}
 use Rattle.hv_scope.proofs.LocalLemmas as locals

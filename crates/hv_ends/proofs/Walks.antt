@@ -3,10 +3,10 @@ use Rattle.std.proofs.Common.{◌≡◌, ℕ, ◌+◌, ◌<◌, Bool, false, Lis
 use Rattle.hv_tree.specs.declared.ast.Block.{Block, out-Block}
 use Rattle.hv_tree.specs.declared.ast.Branch.{Branch, out-Branch}
 use Rattle.hv_tree.specs.declared.ast.Stmt.{Stmt}
-use Rattle.hv_tree.specs.Core.{CoreStmts, core_stmts, core_block}
+use Rattle.hv_tree.specs.Core.{CoreStmts, core_stmts, core_block, stmts_in}
 use Rattle.hv_tree.proofs.CoreLemmas as lemmas
-use Rattle.hv_rules.specs.Locals.{Local, CoreBody, entry_locals}
-use Rattle.hv_rules.specs.Events.{Belongs, ToEnd, kind_from, is_written_back, has_some, stmts_in}
+use Rattle.hv_decls.specs.Locals.{Local, CoreBody, entry_locals}
+use Rattle.hv_rules.specs.Events.{Belongs, ToEnd, kind_from, is_written_back, has_some}
 use Rattle.std.proofs.lemmas.List.{map-append}
 use Rattle.hv_lemmas.proofs.Lists.{first_left, extended}
 use Rattle.hv_ends.specs.declared.span.Span.{Span}

@@ -3,9 +3,9 @@ use Rattle.std.specs.Prelude.{ℕ, ◌+◌, false, List, [], ◌∷◌, ◌++◌
 use Rattle.hv_tree.specs.declared.ast.Block.{Block}
 use Rattle.hv_tree.specs.declared.ast.Branch.{Branch, out-Branch}
 use Rattle.hv_tree.specs.declared.ast.Stmt.{Stmt}
-use Rattle.hv_tree.specs.Core.{CoreBlock, BlockOf, CoreStmts, NoStmts, StmtOf, CoreBranches, NoElse, Else, BranchOf, CoreStmt, Var, VarWith, Let, Inout, Assign, If, While, Return, ReturnWith, Print, Task, AwaitsAlone, CallsAlone, Bare, core_stmt, core_stmts, core_block}
-use Rattle.hv_rules.specs.Locals.{CoreBody, binds, declared_in, in_block, in_stmts, entry_locals}
-use Rattle.hv_rules.specs.Events.{Belongs, ToEnd, is_written_back, is_handle, own, kind_from, if_kind, has_some, stmts_in}
+use Rattle.hv_tree.specs.Core.{CoreBlock, BlockOf, CoreStmts, NoStmts, StmtOf, CoreBranches, NoElse, Else, BranchOf, CoreStmt, Var, VarWith, Let, Inout, Assign, If, While, Return, ReturnWith, Print, Task, AwaitsAlone, CallsAlone, Bare, core_stmt, core_stmts, core_block, stmts_in}
+use Rattle.hv_decls.specs.Locals.{CoreBody, binds, declared_in, in_block, in_stmts, entry_locals}
+use Rattle.hv_rules.specs.Events.{Belongs, ToEnd, is_written_back, is_handle, own, kind_from, if_kind, has_some}
 use Rattle.hv_scope.specs.declared.known.Known.{Known}
 use Rattle.hv_scope.specs.Known.{local_by}
 use Rattle.hv_ends.specs.declared.walk.Opened.{Opened}

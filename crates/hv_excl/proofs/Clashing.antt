@@ -5,15 +5,15 @@ use Rattle.hv_tree.specs.declared.place.Place.{Place}
 use Rattle.hv_tree.specs.declared.refusal.Refusal.{Refusal}
 use Rattle.hv_tree.specs.declared.refusal.Rule.TheVariants as rule
 use Rattle.hv_tree.specs.Core.{Core}
-use Rattle.hv_rules.specs.declared.path.StaticPath.{StaticPath}
+use Rattle.hv_decls.specs.declared.path.StaticPath.{StaticPath}
 use Rattle.hv_rules.specs.declared.event.FlowEvent.{FlowEvent}
 use Rattle.hv_rules.specs.declared.event.FlowEvent.TheVariants as event
-use Rattle.hv_rules.specs.Paths.{Overlap, steps_meet}
-use Rattle.hv_rules.specs.Locals.{CoreBody}
+use Rattle.hv_decls.specs.Paths.{Overlap, steps_meet}
+use Rattle.hv_decls.specs.Locals.{CoreBody}
 use Rattle.hv_rules.specs.Events.{Belongs, ToNothing, ToDeclaration, ToEnd}
 use Rattle.hv_rules.specs.States.{Mode, Reading, Writing, Setting, Access, binding_of, State}
 use Rattle.hv_rules.specs.Rules.{asks_free, asks_unwritten, Clashes, ClashesWithChange}
-use Rattle.hv_rules.proofs.Overlaps.{meets, meet_of}
+use Rattle.hv_decls.proofs.Overlaps.{meets, meet_of}
 use Rattle.hv_excl.specs.Clashes.{overlaps, counts, clashes, change_refused, read_refused, refused_at}
 
 -- ---- items of a list

@@ -7,13 +7,13 @@ use Rattle.hv_tree.specs.declared.refusal.Rule.{Rule}
 use Rattle.hv_tree.specs.declared.refusal.Rule.TheVariants as rule
 use Rattle.hv_tree.specs.Core.{Core}
 use Rattle.hv_rules.specs.Flow.{Flow, Do, Then}
-use Rattle.hv_rules.specs.Locals.{CoreBody}
-use Rattle.hv_rules.specs.Sites.{bodies_of}
-use Rattle.hv_rules.specs.Names.{IsViolatedByNames}
-use Rattle.hv_rules.specs.TypeRules.{IsViolatedByTypes, at_part, at_struct}
+use Rattle.hv_decls.specs.Locals.{CoreBody}
+use Rattle.hv_decls.specs.Sites.{bodies_of}
+use Rattle.hv_type_rules.specs.Names.{IsViolatedByNames}
+use Rattle.hv_type_rules.specs.TypeRules.{IsViolatedByTypes, at_part, at_struct}
 use Rattle.hv_rules.specs.Rules.{IsViolatedIn, in_body, at_task}
 use Rattle.hv_rules.specs.Accepted.{AccessPhase, IsViolated, IsViolatedInPhase}
-use Rattle.hv_rules.specs.Earlier.{number_of, NotAfter, IsEarlier, IsFirst}
+use Rattle.hv_tree.specs.Earlier.{number_of, NotAfter, IsEarlier, IsFirst}
 use Rattle.hv_plan.specs.declared.plan.FlowOp.{FlowOp}
 use Rattle.hv_plan.specs.declared.body.Planned.{Planned}
 use Rattle.hv_plan.specs.Planned.{planned_by, planned, all_planned}

@@ -1,11 +1,11 @@
 -- The acts of a plan spell what its body refuses.
 use Rattle.std.proofs.Common.{◌≡◌, ℕ, List, [], ◌∷◌, ◌++◌, Option, None, refl, sym, ap, ◌∙◌, append_assoc, append-nil}
-use Rattle.hv_tree.specs.Core.{Core}
+use Rattle.hv_tree.specs.Core.{Core, end_of}
 use Rattle.hv_rules.specs.declared.event.FlowEvent.{FlowEvent}
 use Rattle.hv_rules.specs.declared.event.FlowEvent.TheVariants as event
 use Rattle.hv_rules.specs.Flow.{Skip, Do, Stop, Then, Either, Loop}
-use Rattle.hv_rules.specs.Locals.{CoreBody}
-use Rattle.hv_rules.specs.Events.{Belongs, Mark, Events, end_of, body_events}
+use Rattle.hv_decls.specs.Locals.{CoreBody}
+use Rattle.hv_rules.specs.Events.{Belongs, Mark, Events, body_events}
 use Rattle.hv_rules.specs.States.{Access, binding_of}
 use Rattle.hv_traces.specs.Mapped.{mapped}
 use Rattle.hv_traces.specs.Carried.{behind, Steady, carrying}

@@ -7,7 +7,7 @@ use Rattle.hv_tree.specs.declared.refusal.Rule.{Rule}
 use Rattle.hv_tree.specs.declared.refusal.Rule.TheVariants as rule
 use Rattle.hv_tree.specs.Core.{Core}
 use Rattle.hv_rules.specs.Flow.{Flow, Do, Then, IsWhole, IsTrace}
-use Rattle.hv_rules.specs.Locals.{CoreBody}
+use Rattle.hv_decls.specs.Locals.{CoreBody}
 use Rattle.hv_rules.specs.Events.{Mark}
 use Rattle.hv_rules.specs.States.{Access, binding_of, Open, state_after}
 use Rattle.hv_rules.specs.Rules.{Violates}

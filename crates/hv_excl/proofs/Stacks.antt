@@ -2,7 +2,7 @@
 use Rattle.std.proofs.Common.{◌≡◌, ℕ, Bool, true, false, ◌&&◌, ◌||◌, if◌then◌else◌, nat_lt, max, List, [], ◌∷◌, ◌++◌, map, reverse, Option, Some, None, refl, sym, ap, subst, ◌∙◌, append_assoc, ◌<◌, arith}
 use Rattle.std.proofs.lemmas.Bool.{ltb-true, lt-ltb}
 use Rattle.std.proofs.lemmas.List.{reverse-append, map-append}
-use Rattle.hv_rules.specs.declared.path.StaticPath.{StaticPath}
+use Rattle.hv_decls.specs.declared.path.StaticPath.{StaticPath}
 use Rattle.hv_rules.specs.States.{Access, stays, without_bindings}
 use Rattle.hv_excl.specs.declared.access.OpenAccess.{OpenAccess}
 use Rattle.hv_excl.specs.declared.access.Entry.{Entry}

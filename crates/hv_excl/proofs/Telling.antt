@@ -6,11 +6,13 @@ use Rattle.hv_tree.specs.declared.types.Name.{Name}
 use Rattle.hv_tree.specs.declared.types.Conv.{Conv}
 use Rattle.hv_tree.specs.declared.types.Conv.TheVariants as conv
 use Rattle.hv_tree.specs.Core.{Core, CoreExpr, Number, Truth, Path, Calls, Awaits, Array, Filled, Count, Lambda, Prefix, Chain, CoreExprs, NoExprs, ExprOf, CoreLinks, NoLinks, LinkOf, CoreSteps, NoSteps, FieldStep, IndexStep, CoreCall, CallOf, CoreArgs, NoArgs, ValueArg, RefArg, CoreBlock, BlockOf, CoreBranches, NoElse, Else, BranchOf, CoreStmts, NoStmts, StmtOf, CoreStmt, Var, VarWith, Let, Inout, Assign, If, While, Return, ReturnWith, Print, Task, AwaitsAlone, CallsAlone, Bare}
-use Rattle.hv_rules.specs.declared.path.StaticPath.{StaticPath}
+use Rattle.hv_decls.specs.declared.path.StaticPath.{StaticPath}
 use Rattle.hv_rules.specs.declared.event.FlowEvent.TheVariants as event
 use Rattle.hv_rules.specs.Flow.{Skip, Do, Stop, Then, Either, Loop}
-use Rattle.hv_rules.specs.Locals.{LocalKind, Captured, Passed, VarBound, LetBound, InoutBound, Handle, Local, CoreBody, entry_locals, locals_of, number_in, value_of}
+use Rattle.hv_decls.specs.Locals.{LocalKind, Captured, Passed, VarBound, LetBound, InoutBound, Handle, Local, CoreBody, entry_locals, locals_of, number_in, value_of}
 use Rattle.hv_rules.specs.Events as events
+use Rattle.hv_decls.specs.Statics as statics
+use Rattle.hv_tree.specs.Core as core
 use Rattle.hv_rules.specs.States.{binding_of}
 use Rattle.hv_plan.specs.declared.plan.FlowOp.{FlowOp}
 use Rattle.hv_plan.specs.Spelling.{plan_of, entered}
@@ -166,8 +168,8 @@ module _ (tree : Core) (locals : List Local) where
       Keeps (if g then events.is_local tree locals o else false) b (events.on_root tree locals does o root steps)
   rooted true b does None root steps d = skip
   rooted false b does None root steps d = skip
-  rooted true b does (Some n) root steps d = d (record { root = n; steps = events.static_steps tree (value_of (events.local_of tree locals root)) steps }) root.place
-  rooted false b does (Some n) root steps d = d (record { root = n; steps = events.static_steps tree (value_of (events.local_of tree locals root)) steps }) root.place
+  rooted true b does (Some n) root steps d = d (record { root = n; steps = statics.static_steps tree (value_of (events.local_of tree locals root)) steps }) root.place
+  rooted false b does (Some n) root steps d = d (record { root = n; steps = statics.static_steps tree (value_of (events.local_of tree locals root)) steps }) root.place
 
   used : (o : Option ℕ) (root : Name) (steps : CoreSteps) → Plain (events.on_root tree locals events.uses o root steps)
   used o root steps = rooted false None events.uses o root steps uses
@@ -317,6 +319,6 @@ entries n (l ∷ ls) = free_then _ _ (entry_kind n l.kind l.name) (entries (suc 
 ended : (tree : Core) (body : CoreBody) → Free (Do (events.body_end body (events.body_around body)))
 ended tree body = record { tells = λ before next. refl }
 
-pub body_tells : (tree : Core) (body : CoreBody) → Tells None None (entered (events.end_of body.block) (events.body_events tree body))
+pub body_tells : (tree : Core) (body : CoreBody) → Tells None None (entered (core.end_of body.block) (events.body_events tree body))
 body_tells tree body =
-    (refl, (free_then _ _ (entries 0 (entry_locals body)) (free_then _ _ (stmts tree (locals_of body) (events.body_around body) (events.stmts_in body.block)) (ended tree body))).tells None None)
+    (refl, (free_then _ _ (entries 0 (entry_locals body)) (free_then _ _ (stmts tree (locals_of body) (events.body_around body) (core.stmts_in body.block)) (ended tree body))).tells None None)

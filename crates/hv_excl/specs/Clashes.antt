@@ -3,10 +3,10 @@ use Rattle.std.specs.Prelude.{ℕ, ◌==◌, Bool, true, false, ◌&&◌, ◌||�
 use Rattle.hv_tree.specs.declared.place.Place.{Place}
 use Rattle.hv_tree.specs.declared.refusal.Refusal.{Refusal}
 use Rattle.hv_tree.specs.declared.refusal.Rule.TheVariants as rule
-use Rattle.hv_rules.specs.declared.path.StaticPath.{StaticPath}
+use Rattle.hv_decls.specs.declared.path.StaticPath.{StaticPath}
 use Rattle.hv_rules.specs.declared.event.FlowEvent.{FlowEvent}
 use Rattle.hv_rules.specs.declared.event.FlowEvent.TheVariants as event
-use Rattle.hv_rules.specs.Paths.{steps_meet}
+use Rattle.hv_decls.specs.Paths.{steps_meet}
 use Rattle.hv_rules.specs.States.{Mode, Reading, Writing, Setting, Access, closed, without_bindings}
 
 -- ---- what is open behind an event that belongs to this binding, or to none

@@ -2,7 +2,7 @@
 use Rattle.std.specs.Prelude.{◌≡◌, ◌⊎◌, List, [], ◌∷◌, Some}
 use Rattle.hv_tree.specs.declared.refusal.Refusal.{Refusal}
 use Rattle.hv_tree.specs.Core.{Core}
-use Rattle.hv_rules.specs.Locals.{CoreBody}
+use Rattle.hv_decls.specs.Locals.{CoreBody}
 use Rattle.hv_rules.specs.Rules.{IsViolatedIn}
 use Rattle.hv_rules.specs.Accepted.{AccessPhase, phase_of}
 use Rattle.hv_plan.specs.declared.body.Planned.{Planned}

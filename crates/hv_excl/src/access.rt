@@ -4,7 +4,7 @@ ghost use Rattle.hv_rules.specs.States as states;
 ghost use Rattle.hv_excl.specs.Access as spec;
 
 use hv_items::Items;
-use hv_rules::StaticPath;
+use hv_decls::StaticPath;
 use std::alloc::{AllocError as NoMemory, Global};
 use std::marker::Model;
 

@@ -4,7 +4,8 @@ ghost use Rattle.hv_excl.specs.Access.{access_by, entry_by, mode_by};
 ghost use Rattle.hv_excl.specs.Clashes as spec;
 
 use crate::access::{AccessMode, Entry, OpenAccess, Opened};
-use hv_rules::{FlowEvent, StaticPath, overlap};
+use hv_decls::{StaticPath, overlap};
+use hv_rules::FlowEvent;
 use hv_tree::{Place, Refusal, Rule};
 
 #[tactic(auto, using(crate::proofs::Clashing::overlap_of, crate::proofs::Clashing::overlap_to))]

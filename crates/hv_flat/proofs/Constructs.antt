@@ -6,9 +6,9 @@ use Rattle.hv_tree.specs.declared.types.Name.{Name}
 use Rattle.hv_tree.specs.declared.types.Conv.{Conv}
 use Rattle.hv_tree.specs.declared.types.Conv.TheVariants as conv
 use Rattle.hv_tree.specs.Core.{Core, CoreSteps}
-use Rattle.hv_rules.specs.declared.path.StaticStep.{StaticStep}
-use Rattle.hv_rules.specs.Locals.{Local}
-use Rattle.hv_rules.specs.Events.{static_steps}
+use Rattle.hv_decls.specs.declared.path.StaticStep.{StaticStep}
+use Rattle.hv_decls.specs.Locals.{Local}
+use Rattle.hv_decls.specs.Statics.{static_steps}
 use Rattle.hv_value.specs.ValueTree.{ValueTree, Parts, Nil, Cons, row}
 use Rattle.hv_value.specs.Holes.{emptied}
 use Rattle.hv_value.specs.Sizes.{copy_cost}

@@ -3,9 +3,9 @@ use Rattle.std.proofs.Common.{◌≡◌, ℕ, zero, suc, List, length, Option, S
 use Rattle.std.specs.List.{slice_get}
 use Rattle.hv_tree.specs.declared.place.Place.{Place}
 use Rattle.hv_tree.specs.Core.{Core}
-use Rattle.hv_rules.specs.Locals.{CoreBody, locals_of}
+use Rattle.hv_decls.specs.Locals.{CoreBody, locals_of}
 use Rattle.hv_copying.specs.declared.end.TrapKind.TheVariants as trap_kind
-use Rattle.hv_rules.specs.Sites.{bodies_of}
+use Rattle.hv_decls.specs.Sites.{bodies_of}
 use Rattle.hv_copying.specs.declared.end.Cause.TheVariants.{Kinds}
 use Rattle.hv_copying.specs.Run.{Flow, and_then, stuck, halt, mine, become, pure, trap, pay, counted_from}
 use Rattle.hv_copying.specs.Ops.{Passed}

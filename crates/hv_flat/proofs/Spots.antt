@@ -1,7 +1,7 @@
 -- Places and accesses of both forms.
 use Rattle.std.proofs.Common.{◌≡◌, ℕ, suc, List, [], ◌∷◌, Option, Some, None, refl, sym, ◌∙◌}
 use Rattle.hv_tree.specs.declared.place.Place.{Place}
-use Rattle.hv_rules.specs.declared.path.StaticStep.{StaticStep}
+use Rattle.hv_decls.specs.declared.path.StaticStep.{StaticStep}
 use Rattle.hv_value.specs.ValueTree.{ValueTree}
 use Rattle.hv_value.specs.Walk.{Link, Reached, Reaches, Outside, Lost, walk}
 use Rattle.hv_value.proofs.WalkLaws.{get_walk}

@@ -4,12 +4,12 @@ use Rattle.hv_tree.specs.declared.place.Place.{Place}
 use Rattle.hv_tree.specs.declared.types.Name.{Name}
 use Rattle.hv_tree.specs.declared.types.Conv.{Conv}
 use Rattle.hv_tree.specs.declared.types.Conv.TheVariants as conv
-use Rattle.hv_rules.specs.declared.path.StaticStep.{StaticStep}
+use Rattle.hv_decls.specs.declared.path.StaticStep.{StaticStep}
 use Rattle.hv_tree.specs.Core.{Core, CoreParam, CoreExpr, Number, Truth, Path, Calls, Awaits, Array, Filled, Count, Lambda, Prefix, Chain, CoreExprs, NoExprs, ExprOf, CoreLinks, NoLinks, LinkOf, CoreSteps, NoSteps, FieldStep, IndexStep, CoreCall, CallOf, CoreArgs, NoArgs, ValueArg, RefArg, CoreBlock, BlockOf, CoreStmts, NoStmts, StmtOf, CoreBranches, NoElse, Else, BranchOf, CoreStmt, Var, VarWith, Let, Inout, Assign, If, While, Return, ReturnWith, Print, Task, AwaitsAlone, CallsAlone, Bare}
-use Rattle.hv_rules.specs.Types.{ValueType}
-use Rattle.hv_rules.specs.Locals.{Local, CoreBody, number_in}
-use Rattle.hv_rules.specs.Sites.{bodies_of}
-use Rattle.hv_rules.specs.Events.{field_at, element_at}
+use Rattle.hv_decls.specs.Types.{ValueType}
+use Rattle.hv_decls.specs.Locals.{Local, CoreBody, number_in}
+use Rattle.hv_decls.specs.Sites.{bodies_of}
+use Rattle.hv_decls.specs.Statics.{field_at, element_at}
 use Rattle.hv_value.specs.ValueTree.{ValueTree, Fields, Elements, Closure, Parts, Nil, row}
 use Rattle.hv_value.specs.ValueTree as v
 use Rattle.hv_value.specs.Texts.{text}
@@ -18,7 +18,8 @@ use Rattle.hv_copying.specs.declared.end.Cause.TheVariants.{Kinds}
 use Rattle.hv_copying.specs.Run.{Flow, ◌>>=◌, pure, stuck, known, pay, say, counted_from, unless_left}
 use Rattle.hv_copying.specs.Ops as ops
 use Rattle.hv_copying.specs.Ops.{Mode, Reads, Writes, Passed, Value}
-use Rattle.hv_copying.specs.Operations.{number, binary, decides, applied}
+use Rattle.hv_copying.specs.Operations.{number, applied}
+use Rattle.hv_value.specs.Operators.{binary, decides}
 use Rattle.hv_copying.specs.Copying.{Locals, copying}
 use Rattle.hv_copying.specs.Places.{holes, body_number, type_of}
 use Rattle.hv_copying.specs.Places as def_places

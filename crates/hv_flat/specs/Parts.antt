@@ -5,7 +5,7 @@ use Rattle.hv_tree.specs.declared.types.Name.{Name}
 use Rattle.hv_tree.specs.declared.types.Conv.{Conv}
 use Rattle.hv_tree.specs.declared.types.Conv.TheVariants as conv
 use Rattle.hv_tree.specs.Core.{Core, CoreSteps}
-use Rattle.hv_rules.specs.Locals.{Local}
+use Rattle.hv_decls.specs.Locals.{Local}
 use Rattle.hv_value.specs.ValueTree.{ValueTree, Number}
 use Rattle.hv_value.specs.Walk.{Link}
 use Rattle.hv_value.specs.Holes.{emptied}

@@ -5,12 +5,14 @@ use Rattle.hv_tree.specs.declared.types.Name.{Name}
 use Rattle.hv_tree.specs.declared.types.Conv.{Conv}
 use Rattle.hv_tree.specs.declared.types.Conv.TheVariants as conv
 use Rattle.hv_tree.specs.Core.{Core, CoreExpr, Number, Truth, Path, Calls, Awaits, Array, Filled, Count, Lambda, Prefix, Chain, CoreExprs, NoExprs, ExprOf, CoreLinks, NoLinks, LinkOf, CoreSteps, NoSteps, FieldStep, IndexStep, CoreCall, CallOf, CoreArgs, NoArgs, ValueArg, RefArg, CoreBlock, BlockOf, CoreStmts, NoStmts, StmtOf, CoreBranches, NoElse, Else, BranchOf, CoreStmt, Var, VarWith, Let, Inout, Assign, If, While, Return, ReturnWith, Print, Task, AwaitsAlone, CallsAlone, Bare}
-use Rattle.hv_rules.specs.declared.path.StaticPath.{StaticPath}
+use Rattle.hv_decls.specs.declared.path.StaticPath.{StaticPath}
 use Rattle.hv_rules.specs.declared.event.FlowEvent.{FlowEvent}
 use Rattle.hv_rules.specs.declared.event.FlowEvent.TheVariants as event
 use Rattle.hv_rules.specs.Flow.{Skip, Then, Either}
-use Rattle.hv_rules.specs.Locals.{LocalKind, Captured, Passed, VarBound, LetBound, InoutBound, Handle, Local, CoreBody, entry_locals, locals_of, number_in, value_of}
+use Rattle.hv_decls.specs.Locals.{LocalKind, Captured, Passed, VarBound, LetBound, InoutBound, Handle, Local, CoreBody, entry_locals, locals_of, number_in, value_of}
 use Rattle.hv_rules.specs.Events as events
+use Rattle.hv_decls.specs.Statics as statics
+use Rattle.hv_tree.specs.Core as core
 use Rattle.hv_flow.specs.Walks.{EntersNowhere}
 
 abbrev is_entry : FlowEvent → Bool
@@ -88,7 +90,7 @@ chosen false f h = h
 module _ (tree : Core) (locals : List Local) where
   rooted : (does : events.Doing) (o : Option ℕ) (root : Name) (steps : CoreSteps) → Does does → EntersNowhere (events.on_root tree locals does o root steps)
   rooted does None root steps d = tt
-  rooted does (Some n) root steps d = d (record { root = n; steps = events.static_steps tree (value_of (events.local_of tree locals root)) steps }) root.place
+  rooted does (Some n) root steps d = d (record { root = n; steps = statics.static_steps tree (value_of (events.local_of tree locals root)) steps }) root.place
 
   awaited : (o : Option ℕ) (at : Place) → EntersNowhere (events.on_handle tree locals event.Await o at)
   awaited None at = tt
@@ -188,4 +190,4 @@ entries n (l ∷ ls) = (entry_kind n l.kind l.name, entries (suc n) ls)
 
 pub body_enters_nowhere : (tree : Core) (body : CoreBody) → EntersNowhere (events.body_events tree body)
 body_enters_nowhere tree body =
-    (entries 0 (entry_locals body), (stmts tree (locals_of body) (events.body_around body) (events.stmts_in body.block), other (event.ScopeEnd (length (entry_locals body))) refl))
+    (entries 0 (entry_locals body), (stmts tree (locals_of body) (events.body_around body) (core.stmts_in body.block), other (event.ScopeEnd (length (entry_locals body))) refl))

@@ -1,9 +1,9 @@
 -- The graph of a plan is that of its body.
 use Rattle.std.proofs.Common.{◌≡◌, List, Result, Ok, Err, IfOk, Some}
 use Rattle.hv_tree.specs.declared.place.Place.{Place}
-use Rattle.hv_tree.specs.Core.{Core}
-use Rattle.hv_rules.specs.Locals.{CoreBody}
-use Rattle.hv_rules.specs.Events.{Events, end_of, body_events}
+use Rattle.hv_tree.specs.Core.{Core, end_of}
+use Rattle.hv_decls.specs.Locals.{CoreBody}
+use Rattle.hv_rules.specs.Events.{Events, body_events}
 use Rattle.hv_plan.specs.declared.plan.FlowOp.{FlowOp}
 use Rattle.hv_plan.specs.Spelling.{entered, plan_of, plan_of_body}
 use Rattle.hv_flow.specs.declared.nodes.FlowGraph.{FlowGraph}

@@ -3,9 +3,9 @@ use Rattle.std.specs.Prelude.{◌≡◌, ◌≢◌, ◌↔◌, ℕ, List, [], �
 use Rattle.hv_tree.specs.declared.place.Place.{Place}
 use Rattle.hv_rules.specs.declared.event.FlowEvent.TheVariants as event
 use Rattle.hv_rules.specs.Flow.{Flow, Skip, Do, Stop, Then, Either, Loop, IsWhole, IsTrace}
-use Rattle.hv_tree.specs.Core.{Core}
-use Rattle.hv_rules.specs.Locals.{CoreBody}
-use Rattle.hv_rules.specs.Events.{Mark, Events, end_of, body_events}
+use Rattle.hv_tree.specs.Core.{Core, end_of}
+use Rattle.hv_decls.specs.Locals.{CoreBody}
+use Rattle.hv_rules.specs.Events.{Mark, Events, body_events}
 use Rattle.hv_flow.specs.declared.nodes.Node.{Node}
 use Rattle.hv_flow.specs.Acts.{Act, act_of}
 use Rattle.hv_flow.specs.Graphs.{next_of, Edge, ActAt}

@@ -1,7 +1,7 @@
 // The graph of a body.
 ghost use Rattle.std.specs.Prelude.{◌≡◌, slice_get, Some, IfOk};
 ghost use Rattle.hv_tree.specs.Core.{core_tree};
-ghost use Rattle.hv_rules.specs.Sites.{bodies_of};
+ghost use Rattle.hv_decls.specs.Sites.{bodies_of};
 ghost use Rattle.hv_scope.specs.Bodies.{body_by};
 ghost use Rattle.hv_flow.specs.Walks.{IsGraphOf};
 

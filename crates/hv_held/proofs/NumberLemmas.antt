@@ -5,9 +5,8 @@ use mir.Syntax.{w64}
 use Rattle.hv_tree.specs.declared.ast.Operator.{Operator}
 use Rattle.hv_tree.specs.declared.ast.Operator.TheVariants as operator
 use Rattle.hv_value.specs.ValueTree.{ValueTree, Hole, Number, Truth, Fields, Elements, Closure}
-use Rattle.hv_value.specs.Operators.{Given, Gives, Overflow, number, remainder, in_range, of_numbers}
+use Rattle.hv_value.specs.Operators.{Given, Gives, Overflow, number, remainder, in_range, of_numbers, binary}
 use Rattle.hv_value.proofs.OperatorLaws.{number_fits, number_gives}
-use Rattle.hv_copying.specs.Operations.{binary}
 use Rattle.hv_held.specs.Results.{both_numbers, if_fits}
 
 -- a number that has no 64 bits overflows

@@ -3,7 +3,6 @@
 ghost use Rattle.std.specs.Prelude.{◌≡◌, option_map};
 ghost use Rattle.hv_value.specs.ValueTree.{Number};
 ghost use Rattle.hv_value.specs.Operators as spec;
-ghost use Rattle.hv_copying.specs.Operations as operations;
 ghost use Rattle.hv_held.specs.HeldTree.{held_tree};
 ghost use Rattle.hv_held.specs.Results.{given_of, both_numbers, if_fits};
 
@@ -22,7 +21,7 @@ pub enum Computed {
 /// None where the operands are of another kind.
 #[tactic(auto, using(crate::proofs::NumberLemmas::by_kind))]
 pub fn binary(operator: Operator, a: &Held, b: &Held) -> Option<Computed>
-    ensures { option_map given_of result ≡ operations.binary operator (held_tree a.now) (held_tree b.now) }
+    ensures { option_map given_of result ≡ spec.binary operator (held_tree a.now) (held_tree b.now) }
 {
     match operator {
         Operator::Eq => Some(truth(equal(a, b))),
@@ -49,7 +48,7 @@ pub fn binary(operator: Operator, a: &Held, b: &Held) -> Option<Computed>
 
 /// None where the operand is of another kind.
 pub fn unary(operator: Operator, a: &Held) -> Option<Computed>
-    ensures { option_map given_of result ≡ operations.unary operator (held_tree a.now) }
+    ensures { option_map given_of result ≡ spec.unary operator (held_tree a.now) }
 {
     match (operator, a) {
         (Operator::Neg, Held::Int(x)) => Some(number(x.checked_neg())),
@@ -69,7 +68,7 @@ fn numbers(a: &Held, b: &Held) -> Option<(i64, i64)>
 
 #[tactic(auto, using(hv_value::proofs::OperatorLaws::operator_laws))]
 fn of_numbers(operator: Operator, x: i64, y: i64) -> Option<Computed>
-    ensures { option_map given_of result ≡ operations.binary operator (Number x) (Number y) }
+    ensures { option_map given_of result ≡ spec.binary operator (Number x) (Number y) }
 {
     match operator {
         Operator::Add => Some(number(x.checked_add(y))),

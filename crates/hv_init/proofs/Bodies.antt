@@ -3,8 +3,8 @@ use Rattle.std.proofs.Common.{◌≡◌, ◌⊎◌, inl, inr, ℕ, ◌+◌, ◌<
 use Rattle.std.proofs.lemmas.List.{take_more, map-append}
 use Rattle.hv_tree.specs.declared.refusal.Refusal.{Refusal}
 use Rattle.hv_tree.specs.Core.{Core}
-use Rattle.hv_rules.specs.Earlier.{IsEarlier, IsFirst}
-use Rattle.hv_rules.specs.Locals.{CoreBody}
+use Rattle.hv_tree.specs.Earlier.{IsEarlier, IsFirst}
+use Rattle.hv_decls.specs.Locals.{CoreBody}
 use Rattle.hv_scope.specs.declared.bodies.Body.{Body}
 use Rattle.hv_scope.specs.Bodies.{body_by}
 use Rattle.hv_pass.proofs.Firsts.{same_first}

@@ -2,7 +2,7 @@
 ghost use Rattle.std.specs.Prelude.{map, IfOk};
 ghost use Rattle.hv_tree.specs.Core.{core_tree};
 ghost use Rattle.hv_rules.specs.Accepted.{InitPhase, IsViolatedInPhase};
-ghost use Rattle.hv_rules.specs.Earlier.{IsFirst};
+ghost use Rattle.hv_tree.specs.Earlier.{IsFirst};
 ghost use Rattle.hv_scope.specs.Bodies.{body_by};
 ghost use Rattle.hv_leaves.specs.Leaves.{AreSizesOf};
 ghost use Rattle.hv_init_law.specs.Law.{IsViolatedAmong, IsViolatedBy};
@@ -13,7 +13,7 @@ use hv_layout::Layout;
 use hv_leaves::Sizes;
 use hv_pass::first_refusal;
 use hv_plan::plan_of_body;
-use hv_rules::earlier;
+use hv_tree::earlier;
 use hv_scope::{Body, Declared, bodies_of};
 use hv_tree::{Refusal, Tree};
 use std::alloc::{AllocError as NoMemory, Global};

@@ -3,7 +3,7 @@ use Rattle.std.proofs.Common.{◌≡◌, ◌⊎◌, inl, inr, ◌<◌, ◌≤◌
 use Rattle.std.proofs.lemmas.Bool.{cases_lt}
 use Rattle.std.proofs.lemmas.Bool.Decides.{nat_tests}
 use Rattle.hv_tree.specs.Core.{Core}
-use Rattle.hv_rules.specs.Locals.{Local}
+use Rattle.hv_decls.specs.Locals.{Local}
 use Rattle.hv_pass.specs.declared.act.Range.{Range}
 use Rattle.hv_pass.specs.Refused.{covers}
 use Rattle.hv_init_law.specs.Plain.{kept, kept_before, range_if}

@@ -1,8 +1,8 @@
 -- The leaves of a type are those of its shape.
 use Rattle.std.proofs.Common.{◌≡◌, ◌⊎◌, inl, inr, ◌+◌, ℕ, zero, suc, List, [], ◌∷◌, map, refl, sym, ap, subst, ◌∙◌, arith, Option, Some, None}
 use Rattle.hv_tree.specs.Core.{Core}
-use Rattle.hv_rules.specs.Types.{ValueType, IntType, BoolType, StructType, ArrayType, FunType, FunToType, LeafShape, StructShape, TypeShapes, NoShapes, shapes_of, shape, leaves, below_fields, or_itself, field_types, most_depth}
-use Rattle.hv_rules.specs.Locals.{Local}
+use Rattle.hv_decls.specs.Types.{ValueType, IntType, BoolType, StructType, ArrayType, FunType, FunToType, LeafShape, StructShape, TypeShapes, NoShapes, shapes_of, shape, leaves, below_fields, or_itself, field_types, most_depth}
+use Rattle.hv_decls.specs.Locals.{Local}
 use Rattle.hv_rules.specs.Rules.{leaves_by, leaves_from}
 use Rattle.hv_lemmas.proofs.Members.{Among, in_left, in_right, either_in}
 use Rattle.hv_init_law.specs.Plain.{shape_by}

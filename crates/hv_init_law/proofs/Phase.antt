@@ -5,11 +5,11 @@ use Rattle.hv_tree.specs.declared.refusal.Refusal.{Refusal}
 use Rattle.hv_tree.specs.declared.refusal.Rule.{Rule}
 use Rattle.hv_tree.specs.declared.refusal.Rule.TheVariants as rule
 use Rattle.hv_tree.specs.Core.{Core}
-use Rattle.hv_rules.specs.Locals.{CoreBody}
-use Rattle.hv_rules.specs.Sites.{bodies_of}
-use Rattle.hv_rules.specs.Earlier.{IsFirst}
+use Rattle.hv_decls.specs.Locals.{CoreBody}
+use Rattle.hv_decls.specs.Sites.{bodies_of}
+use Rattle.hv_tree.specs.Earlier.{IsFirst}
 use Rattle.hv_rules.specs.Rules.{IsViolatedIn, in_body, at_task}
-use Rattle.hv_rules.specs.TypeRules.{at_part, at_struct}
+use Rattle.hv_type_rules.specs.TypeRules.{at_part, at_struct}
 use Rattle.hv_rules.specs.Accepted.{InitPhase, phase_of, IsViolated, IsViolatedInPhase}
 use Rattle.hv_lemmas.proofs.Members.{Among, listed, contained}
 use Rattle.hv_pass.proofs.Firsts.{same_first}

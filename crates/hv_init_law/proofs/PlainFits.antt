@@ -1,7 +1,7 @@
 -- The layout that numbers all leaves of the locals that have cells one after the other fits each body.
 use Rattle.std.proofs.Common.{◌≡◌, ◌⊎◌, inl, inr, ◌+◌, ◌<◌, ◌≤◌, ℕ, zero, suc, Bool, true, false, List, [], ◌∷◌, refl, sym, ap, subst, ◌∙◌, arith}
 use Rattle.hv_tree.specs.Core.{Core}
-use Rattle.hv_rules.specs.Locals.{Local, CoreBody, locals_of}
+use Rattle.hv_decls.specs.Locals.{Local, CoreBody, locals_of}
 use Rattle.hv_rules.specs.States.{Leaf, is_front}
 use Rattle.hv_rules.specs.Rules.{leaves_from}
 use Rattle.hv_lemmas.proofs.Members.{listed, contained}

@@ -1,8 +1,8 @@
 -- The layout in which leaves that no range parts share a cell fits, too.
 use Rattle.std.proofs.Common.{◌≡◌, ◌⊎◌, inl, inr, ◌+◌, ◌-◌, ◌<◌, ◌≤◌, ℕ, zero, suc, Bool, true, false, if◌then◌else◌, List, [], ◌∷◌, refl, sym, ap, subst, ◌∙◌, arith}
 use Rattle.hv_tree.specs.Core.{Core}
-use Rattle.hv_rules.specs.Types.{TypeShape, LeafShape, StructShape}
-use Rattle.hv_rules.specs.Locals.{Local, CoreBody, locals_of}
+use Rattle.hv_decls.specs.Types.{TypeShape, LeafShape, StructShape}
+use Rattle.hv_decls.specs.Locals.{Local, CoreBody, locals_of}
 use Rattle.hv_rules.specs.States.{Leaf, is_front}
 use Rattle.hv_rules.specs.Rules.{leaves_from}
 use Rattle.hv_lemmas.proofs.Members.{listed}

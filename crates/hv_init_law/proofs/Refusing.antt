@@ -5,11 +5,11 @@ use Rattle.hv_tree.specs.declared.refusal.Refusal.{Refusal}
 use Rattle.hv_tree.specs.declared.refusal.Rule.{Rule}
 use Rattle.hv_tree.specs.declared.refusal.Rule.TheVariants as rule
 use Rattle.hv_tree.specs.Core.{Core}
-use Rattle.hv_rules.specs.declared.path.StaticPath.{StaticPath}
+use Rattle.hv_decls.specs.declared.path.StaticPath.{StaticPath}
 use Rattle.hv_rules.specs.declared.event.FlowEvent.{FlowEvent}
 use Rattle.hv_rules.specs.declared.event.FlowEvent.TheVariants as event
-use Rattle.hv_rules.specs.Earlier.{IsFirst}
-use Rattle.hv_rules.specs.Locals.{CoreBody}
+use Rattle.hv_tree.specs.Earlier.{IsFirst}
+use Rattle.hv_decls.specs.Locals.{CoreBody}
 use Rattle.hv_rules.specs.Events.{Mark}
 use Rattle.hv_rules.specs.States.{fields_of, has_index, Mode, Reading, Writing, Setting, Access, last_called, Filled, Open, state_after}
 use Rattle.hv_rules.specs.Rules.{Trace, asks_whole, back_at, missing_at, HasHole, Violates}

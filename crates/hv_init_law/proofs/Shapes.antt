@@ -3,7 +3,7 @@ use Rattle.std.specs.Prelude.{⊤}
 use Rattle.std.proofs.Common.{◌≡◌, ◌⊎◌, inl, inr, ◌==◌, ◌+◌, ◌<◌, ◌≤◌, ◌&&◌, nat_le, nat_lt, ℕ, zero, suc, Bool, true, false, List, [], ◌∷◌, refl, sym, ap, ◌∙◌, arith}
 use Rattle.std.proofs.lemmas.Bool.{eq-eqb}
 use Rattle.std.proofs.lemmas.Bool.Decides.{nat_tests}
-use Rattle.hv_rules.specs.Types.{TypeShape, LeafShape, StructShape, TypeShapes, NoShapes, ShapeOf}
+use Rattle.hv_decls.specs.Types.{TypeShape, LeafShape, StructShape, TypeShapes, NoShapes, ShapeOf}
 use Rattle.hv_rules.specs.States.{is_front}
 use Rattle.hv_pass.specs.Refused.{covers}
 use Rattle.hv_init_law.specs.Plain.{or_one, size, sizes, span, spans}

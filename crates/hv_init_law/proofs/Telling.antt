@@ -4,11 +4,11 @@ use Rattle.std.proofs.Common.{◌≡◌, inl, ◌==◌, ◌&&◌, not, ℕ, Bool
 use Rattle.std.proofs.lemmas.Bool.{eq-eqb, eqb-true}
 use Rattle.hv_tree.specs.declared.place.Place.{Place}
 use Rattle.hv_tree.specs.Core.{Core}
-use Rattle.hv_rules.specs.declared.path.StaticPath.{StaticPath}
+use Rattle.hv_decls.specs.declared.path.StaticPath.{StaticPath}
 use Rattle.hv_rules.specs.declared.event.FlowEvent.{FlowEvent}
 use Rattle.hv_rules.specs.declared.event.FlowEvent.TheVariants as event
 use Rattle.hv_rules.specs.Flow.{Flow, IsWhole, IsTrace}
-use Rattle.hv_rules.specs.Locals.{CoreBody}
+use Rattle.hv_decls.specs.Locals.{CoreBody}
 use Rattle.hv_rules.specs.Events.{Belongs, Mark, body_events}
 use Rattle.hv_rules.specs.States.{Leaf, fields_of, has_index, is_front, changed, emptied, Mode, Reading, Writing, Setting, Access, opened, unless_bound, last_called, dropped_or_kept, closed, filled_by, filled_at_close, stays, without_bindings, State, start, after_event, after, after_all, Filled}
 use Rattle.hv_rules.specs.States as states

@@ -3,7 +3,7 @@ use Rattle.std.specs.Prelude.{◌≡◌, ◌⊎◌, true, List, [], ◌∷◌, m
 use Rattle.hv_tree.specs.declared.refusal.Refusal.{Refusal}
 use Rattle.hv_tree.specs.Core.{Core}
 use Rattle.hv_rules.specs.Flow.{IsTrace}
-use Rattle.hv_rules.specs.Locals.{CoreBody}
+use Rattle.hv_decls.specs.Locals.{CoreBody}
 use Rattle.hv_rules.specs.Events.{Mark}
 use Rattle.hv_rules.specs.States.{Leaf, Access, Filled}
 use Rattle.hv_rules.specs.Rules.{IsViolatedIn}

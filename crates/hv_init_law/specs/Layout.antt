@@ -1,10 +1,10 @@
 -- Cells that tell of the leaves of a body's locals.
 use Rattle.std.specs.Prelude.{◌≡◌, ◌⊎◌, ℕ, Bool, true, false, List, [], ◌∷◌, ◌++◌, Some, Contains}
 use Rattle.hv_tree.specs.Core.{Core}
-use Rattle.hv_rules.specs.declared.path.StaticPath.{StaticPath}
+use Rattle.hv_decls.specs.declared.path.StaticPath.{StaticPath}
 use Rattle.hv_rules.specs.declared.event.FlowEvent.{FlowEvent}
 use Rattle.hv_rules.specs.declared.event.FlowEvent.TheVariants as event
-use Rattle.hv_rules.specs.Locals.{CoreBody, locals_of}
+use Rattle.hv_decls.specs.Locals.{CoreBody, locals_of}
 use Rattle.hv_rules.specs.Events.{Mark}
 use Rattle.hv_rules.specs.States.{Leaf, fields_of, is_front, Filled}
 use Rattle.hv_rules.specs.Rules.{Trace, leaves_from, asks_whole, back_at}

@@ -1,8 +1,8 @@
 -- The layout that numbers all leaves of the locals that have cells one after the other.
 use Rattle.std.specs.Prelude.{ℕ, zero, suc, ◌+◌, Bool, true, false, if◌then◌else◌, List, [], ◌∷◌, Option, Some, None}
 use Rattle.hv_tree.specs.Core.{Core}
-use Rattle.hv_rules.specs.Types.{ValueType, TypeShape, LeafShape, StructShape, TypeShapes, NoShapes, ShapeOf, shape, most_depth}
-use Rattle.hv_rules.specs.Locals.{Local, CoreBody, locals_of}
+use Rattle.hv_decls.specs.Types.{ValueType, TypeShape, LeafShape, StructShape, TypeShapes, NoShapes, ShapeOf, shape, most_depth}
+use Rattle.hv_decls.specs.Locals.{Local, CoreBody, locals_of}
 use Rattle.hv_pass.specs.declared.act.Range.{Range}
 use Rattle.hv_init_law.specs.Layout.{Layout}
 

@@ -1,7 +1,7 @@
 -- The layout in which leaves that no range parts share a cell.
 use Rattle.std.specs.Prelude.{◌≡◌, ℕ, zero, suc, ◌+◌, ◌-◌, Bool, true, if◌then◌else◌, List, []}
 use Rattle.hv_tree.specs.Core.{Core}
-use Rattle.hv_rules.specs.Locals.{CoreBody}
+use Rattle.hv_decls.specs.Locals.{CoreBody}
 use Rattle.hv_rules.specs.States.{Leaf}
 use Rattle.hv_pass.specs.declared.act.Range.{Range}
 use Rattle.hv_init_law.specs.Layout.{Layout, Occurs, IsLeaf}

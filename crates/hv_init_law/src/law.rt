@@ -3,9 +3,9 @@ ghost use Rattle.std.specs.Prelude.{◌≡◌, ◌↔◌, ℕ, Bool, false, Opti
 ghost use Rattle.hv_tree.specs.declared.refusal.Refusal.{Refusal};
 ghost use Rattle.hv_tree.specs.Core.{Core};
 ghost use Rattle.hv_rules.specs.Accepted.{InitPhase, IsViolatedInPhase};
-ghost use Rattle.hv_rules.specs.Earlier.{IsFirst};
-ghost use Rattle.hv_rules.specs.Locals.{CoreBody};
-ghost use Rattle.hv_rules.specs.Sites.{bodies_of};
+ghost use Rattle.hv_tree.specs.Earlier.{IsFirst};
+ghost use Rattle.hv_decls.specs.Locals.{CoreBody};
+ghost use Rattle.hv_decls.specs.Sites.{bodies_of};
 ghost use Rattle.hv_pass.specs.Refused.{IsRefused};
 ghost use Rattle.hv_init_law.specs.Layout.{Layout, Fits, IsFilledWhereAsked};
 ghost use Rattle.hv_init_law.specs.Acts.{acts_of};

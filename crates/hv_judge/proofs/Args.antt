@@ -19,8 +19,8 @@ use Rattle.hv_tree.specs.declared.ast.StmtKind.{StmtKind}
 use Rattle.hv_tree.specs.declared.ast.Arg.TheOpen.{Arg-F}
 use Rattle.hv_tree.specs.Core.{CoreArgs, NoArgs, ValueArg, RefArg, core_of, core_arg, core_args, core_place}
 use Rattle.hv_tree.proofs.CoreLemmas as lemmas
-use Rattle.hv_rules.specs.TypeRules.{expr_place}
-use Rattle.hv_rules.specs.Typing.{Wanted}
+use Rattle.hv_type_rules.specs.TypeRules.{expr_place}
+use Rattle.hv_type_rules.specs.Typing.{Wanted}
 use Rattle.hv_lemmas.proofs.Lists.{first_left}
 use Rattle.hv_typing.specs.declared.around.Around.{Around}
 use Rattle.hv_typing.specs.Here as here

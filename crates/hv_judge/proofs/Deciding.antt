@@ -9,11 +9,11 @@ use Rattle.hv_tree.specs.declared.types.Conv.TheVariants as conv
 use Rattle.hv_tree.specs.declared.ast.Operator.{Operator}
 use Rattle.hv_tree.specs.declared.place.Place.{Place}
 use Rattle.hv_tree.specs.Core.{Core, CoreSteps, NoSteps, FieldStep, IndexStep}
-use Rattle.hv_rules.specs.Types.{ValueType, IntType, BoolType, StructType, ArrayType, FunType, FunToType, ParamTypes, NoneTaken, Taken, struct_in, field_of, element_of}
-use Rattle.hv_rules.specs.Locals.{LocalKind, Captured, Passed, VarBound, LetBound, InoutBound, Handle, Local}
-use Rattle.hv_rules.specs.Sites.{Scope}
-use Rattle.hv_rules.specs.Typing.{Known, Unknown, Nothing, Is, operand_type, Signature, NoSignature, Signed}
-use Rattle.hv_rules.specs.TypeRules as rules
+use Rattle.hv_decls.specs.Types.{ValueType, IntType, BoolType, StructType, ArrayType, FunType, FunToType, ParamTypes, NoneTaken, Taken, struct_in, field_of, element_of}
+use Rattle.hv_decls.specs.Locals.{LocalKind, Captured, Passed, VarBound, LetBound, InoutBound, Handle, Local}
+use Rattle.hv_decls.specs.Sites.{Scope}
+use Rattle.hv_type_rules.specs.Typing.{Known, Unknown, Nothing, Is, operand_type, Signature, NoSignature, Signed}
+use Rattle.hv_type_rules.specs.TypeRules as rules
 use Rattle.hv_texts.specs.Texts.{has}
 use Rattle.hv_typing.specs.Tests.{same_conv, same_type, same_params, misfits, other, differ, signature_differs, is_equality, no_array, no_field, no_function, holds, known_to_hold, is_handle_kind, no_value, no_handle, is_handle, is_read_only_kind, is_read_only, is_struct_name, has_index, is_changed, is_moved}
 

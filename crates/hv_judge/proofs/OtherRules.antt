@@ -8,12 +8,12 @@ use Rattle.hv_tree.specs.declared.types.Conv.TheVariants as conv
 use Rattle.hv_tree.specs.declared.refusal.Rule.{Rule}
 use Rattle.hv_tree.specs.declared.refusal.Rule.TheVariants as rule
 use Rattle.hv_tree.specs.Core.{Core, CoreExpr, Number, Truth, Path, Calls, Awaits, Array, Filled, Count, Lambda, Prefix, Chain, CoreLinks, NoLinks, LinkOf, CoreSteps, NoSteps, FieldStep, IndexStep, CoreArgs, NoArgs, ValueArg, RefArg}
-use Rattle.hv_rules.specs.Types.{ValueType}
-use Rattle.hv_rules.specs.Locals.{Local, value_of}
-use Rattle.hv_rules.specs.Events.{field_at, element_at, type_at}
-use Rattle.hv_rules.specs.Sites.{Scope}
-use Rattle.hv_rules.specs.Typing.{Known, Wanted, known, Signature, NoSignature, Signed}
-use Rattle.hv_rules.specs.TypeRules as rules
+use Rattle.hv_decls.specs.Types.{ValueType}
+use Rattle.hv_decls.specs.Locals.{Local, value_of}
+use Rattle.hv_decls.specs.Statics.{field_at, element_at, type_at}
+use Rattle.hv_decls.specs.Sites.{Scope}
+use Rattle.hv_type_rules.specs.Typing.{Known, Wanted, known, Signature, NoSignature, Signed}
+use Rattle.hv_type_rules.specs.TypeRules as rules
 use Rattle.hv_typing.specs.Tests.{is_equality, no_field, no_function, known_to_hold, no_value, no_handle, is_handle, is_read_only, is_struct_name, has_index, is_changed}
 use Rattle.hv_judge.specs.Judged as spec
 use Rattle.hv_judge.proofs.Exact.{Exact, none, one, both, here, asked, between}

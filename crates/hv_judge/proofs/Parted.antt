@@ -18,9 +18,9 @@ use Rattle.hv_tree.specs.declared.ast.StmtKind.{StmtKind, out-StmtKind}
 use Rattle.hv_tree.specs.declared.ast.Arg.TheOpen.{ExprKind-F, StmtKind-F}
 use Rattle.hv_tree.specs.Core.{CoreExpr, CoreStmt, CoreSteps, core_of, core_kind, core_place, core_steps, core_stmt, core_stmt_kind, core_call, core_option_ty}
 use Rattle.hv_tree.proofs.CoreLemmas as lemmas
-use Rattle.hv_rules.specs.Types.{IntType, option_meant}
-use Rattle.hv_rules.specs.Locals.{value_of}
-use Rattle.hv_rules.specs.Typing.{operand_type}
+use Rattle.hv_decls.specs.Types.{IntType, option_meant}
+use Rattle.hv_decls.specs.Locals.{value_of}
+use Rattle.hv_type_rules.specs.Typing.{operand_type}
 use Rattle.hv_typing.specs.declared.around.Around.{Around}
 use Rattle.hv_typing.specs.Held.{ty_by}
 use Rattle.hv_typing.specs.Here as here
@@ -28,7 +28,7 @@ use Rattle.hv_typing.specs.Tests as tests
 use Rattle.hv_judge.specs.Judged as spec
 use Rattle.hv_judge.specs.Seen as seen
 use Rattle.hv_judge.proofs.Roots.{root_of}
-use Rattle.hv_rules.specs.Typing as typing
+use Rattle.hv_type_rules.specs.Typing as typing
 
 module _ (a : Around) where
   pub place_opened : (p : PlaceExpr) →

@@ -14,7 +14,7 @@ use Rattle.hv_tree.specs.declared.ast.StmtKind.{StmtKind}
 use Rattle.hv_tree.specs.declared.ast.Arg.TheOpen.{ExprKind-F}
 use Rattle.hv_tree.specs.Core.{core_of, core_kind}
 use Rattle.hv_tree.proofs.CoreLemmas as lemmas
-use Rattle.hv_rules.specs.TypeRules.{expr_place}
+use Rattle.hv_type_rules.specs.TypeRules.{expr_place}
 
 place_by : (k : ExprKind) (at : Place) (u : ExprKind-F Arg ExprKind Step StmtKind Block Branch Call Expr PlaceExpr Stmt) → out-ExprKind k ≡ u → expr_place (core_kind k at) ≡ at
 place_by k at (ExprKind-F.Int z) e = ap expr_place (lemmas.kind_int k at z e)

@@ -6,11 +6,11 @@ use Rattle.hv_tree.specs.declared.refusal.Rule.{Rule}
 use Rattle.hv_tree.specs.declared.refusal.Rule.TheVariants as rule
 use Rattle.hv_tree.specs.declared.refusal.Refusal.{Refusal}
 use Rattle.hv_tree.specs.Core.{Core, CoreDecl, StructOf, FunOf, CoreFun, CoreStruct}
-use Rattle.hv_rules.specs.Types.{StructType, within, leaves_of, most_depth, most_leaves}
-use Rattle.hv_rules.specs.Sites.{Part, Site, sites_of}
-use Rattle.hv_rules.specs.Earlier.{IsFirst}
-use Rattle.hv_rules.specs.Names.{IsViolatedByNames}
-use Rattle.hv_rules.specs.TypeRules.{ViolatesType, IsViolatedByTypes, at_part, at_struct, ViolatesT4, TooGreat}
+use Rattle.hv_decls.specs.Types.{StructType, within, leaves_of, most_depth, most_leaves}
+use Rattle.hv_decls.specs.Sites.{Part, Site, sites_of}
+use Rattle.hv_tree.specs.Earlier.{IsFirst}
+use Rattle.hv_type_rules.specs.Names.{IsViolatedByNames}
+use Rattle.hv_type_rules.specs.TypeRules.{ViolatesType, IsViolatedByTypes, at_part, at_struct, ViolatesT4, TooGreat}
 use Rattle.hv_rules.specs.Rules.{IsViolatedByEvents, in_body, at_task}
 use Rattle.hv_rules.specs.Accepted.{NamePhase, TypePhase, phase_of, IsViolated, IsViolatedInPhase, IsFirstOf}
 use Rattle.hv_judge.specs.Judged as spec

@@ -17,7 +17,7 @@ use Rattle.hv_tree.specs.declared.ast.StmtKind.{StmtKind}
 use Rattle.hv_tree.specs.declared.ast.Arg.TheOpen.{ExprKind-F, Step-F}
 use Rattle.hv_tree.specs.Core.{Core, CoreExpr, CoreSteps, NoSteps, core_of, core_kind, core_place, core_step, core_steps}
 use Rattle.hv_tree.proofs.CoreLemmas as lemmas
-use Rattle.hv_rules.specs.Sites.{Scope}
+use Rattle.hv_decls.specs.Sites.{Scope}
 use Rattle.hv_typing.specs.declared.around.Around.{Around}
 use Rattle.hv_typing.specs.Here as here
 use Rattle.hv_judge.specs.Judged as spec

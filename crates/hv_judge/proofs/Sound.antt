@@ -6,11 +6,11 @@ use Rattle.hv_tree.specs.declared.refusal.Rule.{Rule}
 use Rattle.hv_tree.specs.declared.refusal.Rule.TheVariants as rule
 use Rattle.hv_tree.specs.declared.refusal.Refusal.{Refusal}
 use Rattle.hv_tree.specs.Core.{Core, CoreTy, CoreExpr, Number, Truth, Path, Calls, Awaits, Array, Filled, Count, Lambda, Prefix, Chain, CoreSteps, CoreCall, CallOf, CoreArgs, CoreStmt, Var, VarWith, Let, Inout, Assign, If, While, Return, ReturnWith, Print, Task, AwaitsAlone, CallsAlone, Bare}
-use Rattle.hv_rules.specs.Types.{ValueType, IntType, BoolType, meant}
-use Rattle.hv_rules.specs.Locals.{value_of}
-use Rattle.hv_rules.specs.Sites.{Part, ExprPart, CallPart, PlacePart, StmtPart, TestPart, Scope}
-use Rattle.hv_rules.specs.Typing.{Signature, signature_of, operand_type, first_type}
-use Rattle.hv_rules.specs.TypeRules as rules
+use Rattle.hv_decls.specs.Types.{ValueType, IntType, BoolType, meant}
+use Rattle.hv_decls.specs.Locals.{value_of}
+use Rattle.hv_decls.specs.Sites.{Part, ExprPart, CallPart, PlacePart, StmtPart, TestPart, Scope}
+use Rattle.hv_type_rules.specs.Typing.{Signature, signature_of, operand_type, first_type}
+use Rattle.hv_type_rules.specs.TypeRules as rules
 use Rattle.hv_typing.specs.Tests.{no_array, other}
 use Rattle.hv_judge.specs.Judged as spec
 use Rattle.hv_lemmas.proofs.Members.{Among, in_left, in_right, either_in}

@@ -18,8 +18,8 @@ use Rattle.hv_tree.specs.declared.ast.StmtKind.{StmtKind}
 use Rattle.hv_tree.specs.declared.ast.Arg.TheOpen.{Step-F}
 use Rattle.hv_tree.specs.Core.{CoreSteps, NoSteps, FieldStep, IndexStep, core_of, core_step, core_steps}
 use Rattle.hv_tree.proofs.CoreLemmas as lemmas
-use Rattle.hv_rules.specs.Types.{ValueType, IntType}
-use Rattle.hv_rules.specs.Events.{type_behind}
+use Rattle.hv_decls.specs.Types.{ValueType, IntType}
+use Rattle.hv_decls.specs.Statics.{type_behind}
 use Rattle.hv_lemmas.proofs.Lists.{first_left}
 use Rattle.hv_typing.specs.declared.around.Around.{Around}
 use Rattle.hv_typing.specs.Here as here

@@ -5,11 +5,11 @@ use Rattle.hv_tree.specs.declared.place.Place.{Place}
 use Rattle.hv_tree.specs.declared.types.Name.{Name}
 use Rattle.hv_tree.specs.declared.refusal.Rule.TheVariants as rule
 use Rattle.hv_tree.specs.Core.{Core, CoreTy, CoreExpr, CoreExprs, NoExprs, ExprOf, CoreLinks, NoLinks, LinkOf, CoreSteps, NoSteps, FieldStep, IndexStep, CoreCall, CallOf, CoreArgs, NoArgs, ValueArg, RefArg}
-use Rattle.hv_rules.specs.Types.{ValueType, IntType, element_of, meant}
-use Rattle.hv_rules.specs.Events.{field_at, element_at, type_at}
-use Rattle.hv_rules.specs.Sites.{Scope}
-use Rattle.hv_rules.specs.Typing.{Known, Unknown, Nothing, Is, operand_type, Wanted, Signature, NoSignature, Signed, signature_of}
-use Rattle.hv_rules.specs.TypeRules as rules
+use Rattle.hv_decls.specs.Types.{ValueType, IntType, element_of, meant}
+use Rattle.hv_decls.specs.Statics.{field_at, element_at, type_at}
+use Rattle.hv_decls.specs.Sites.{Scope}
+use Rattle.hv_type_rules.specs.Typing.{Known, Unknown, Nothing, Is, operand_type, Wanted, Signature, NoSignature, Signed, signature_of}
+use Rattle.hv_type_rules.specs.TypeRules as rules
 use Rattle.hv_typing.specs.Tests.{misfits, other, differ, signature_differs, is_equality, no_array, no_value, is_struct_name}
 use Rattle.hv_judge.specs.Judged as spec
 use Rattle.hv_judge.proofs.Exact.{Exact, none, one, both, here, asked, between}

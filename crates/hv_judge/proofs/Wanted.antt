@@ -6,8 +6,8 @@ use Rattle.hv_tree.specs.declared.types.Ty.{Ty}
 use Rattle.hv_tree.specs.declared.ast.Param.{Param}
 use Rattle.hv_tree.specs.declared.ast.Field.{Field}
 use Rattle.hv_tree.specs.Core.{core_param, core_field}
-use Rattle.hv_rules.specs.Types.{params_of}
-use Rattle.hv_rules.specs.Typing.{Wanted, wanted_params, wanted_field}
+use Rattle.hv_decls.specs.Types.{params_of}
+use Rattle.hv_type_rules.specs.Typing.{Wanted, wanted_params, wanted_field}
 use Rattle.hv_typing.specs.declared.types.Wants.{Wants}
 use Rattle.hv_typing.specs.Held.{wants_by, wanted_next, pairs_by}
 

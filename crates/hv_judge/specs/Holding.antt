@@ -2,8 +2,8 @@
 use Rattle.std.specs.Prelude.{◌≡◌, ◌↔◌, ℕ, true, List}
 use Rattle.hv_tree.specs.Core.{Core}
 use Rattle.hv_texts.specs.Texts.{has}
-use Rattle.hv_rules.specs.Types.{StructType}
-use Rattle.hv_rules.specs.TypeRules.{HoldsFunction}
+use Rattle.hv_decls.specs.Types.{StructType}
+use Rattle.hv_type_rules.specs.TypeRules.{HoldsFunction}
 
 -- the list names exactly the structs whose values have function values in them
 abbrev pub NamesHolders : Core → List (List ℕ) → Type 0

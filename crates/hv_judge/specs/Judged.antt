@@ -7,12 +7,12 @@ use Rattle.hv_tree.specs.declared.refusal.Rule.{Rule}
 use Rattle.hv_tree.specs.declared.refusal.Rule.TheVariants as rule
 use Rattle.hv_tree.specs.declared.refusal.Refusal.{Refusal}
 use Rattle.hv_tree.specs.Core.{Core, CoreDecl, StructOf, FunOf, CoreStruct, CoreTy, CoreExpr, Number, Truth, Path, Calls, Awaits, Array, Filled, Count, Lambda, Prefix, Chain, CoreExprs, NoExprs, ExprOf, CoreLinks, NoLinks, LinkOf, CoreSteps, NoSteps, FieldStep, IndexStep, CoreCall, CallOf, CoreArgs, NoArgs, ValueArg, RefArg, CoreStmt, Var, VarWith, Let, Inout, Assign, If, While, Return, ReturnWith, Print, Task, AwaitsAlone, CallsAlone, Bare}
-use Rattle.hv_rules.specs.Types.{ValueType, IntType, BoolType, StructType, meant, element_of, within, leaves_of, most_depth, most_leaves}
-use Rattle.hv_rules.specs.Locals.{Local, local_in, value_of}
-use Rattle.hv_rules.specs.Sites.{Part, ExprPart, CallPart, PlacePart, StmtPart, TestPart, Scope, Site, sites_of}
-use Rattle.hv_rules.specs.Events.{field_at, element_at, type_at}
-use Rattle.hv_rules.specs.Typing.{Known, Unknown, Nothing, Is, known, operand_type, Wanted, Signature, NoSignature, Signed, signature_of, place_type, type_of, first_type}
-use Rattle.hv_rules.specs.TypeRules.{expr_place, result_known}
+use Rattle.hv_decls.specs.Types.{ValueType, IntType, BoolType, StructType, meant, element_of, within, leaves_of, most_depth, most_leaves}
+use Rattle.hv_decls.specs.Locals.{Local, local_in, value_of}
+use Rattle.hv_decls.specs.Sites.{Part, ExprPart, CallPart, PlacePart, StmtPart, TestPart, Scope, Site, sites_of}
+use Rattle.hv_decls.specs.Statics.{field_at, element_at, type_at}
+use Rattle.hv_type_rules.specs.Typing.{Known, Unknown, Nothing, Is, known, operand_type, Wanted, Signature, NoSignature, Signed, signature_of, place_type, type_of, first_type}
+use Rattle.hv_type_rules.specs.TypeRules.{expr_place, result_known}
 use Rattle.hv_typing.specs.Tests.{misfits, other, differ, signature_differs, is_equality, no_array, no_field, no_function, known_to_hold, no_value, no_handle, is_handle, is_read_only, is_struct_name, has_index, is_changed, is_moved}
 
 abbrev pub refusal : Rule → Place → Refusal

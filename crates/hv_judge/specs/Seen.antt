@@ -15,12 +15,12 @@ use Rattle.hv_tree.specs.declared.ast.PlaceExpr.{PlaceExpr}
 use Rattle.hv_tree.specs.declared.ast.Step.{Step}
 use Rattle.hv_tree.specs.declared.ast.Stmt.{Stmt}
 use Rattle.hv_tree.specs.Core as core
-use Rattle.hv_rules.specs.Types.{ValueType, IntType}
-use Rattle.hv_rules.specs.Typing.{Known, Wanted, Signature}
+use Rattle.hv_decls.specs.Types.{ValueType, IntType}
+use Rattle.hv_type_rules.specs.Typing.{Known, Wanted, Signature}
 use Rattle.hv_typing.specs.declared.around.Around.{Around}
 use Rattle.hv_typing.specs.Here as here
 use Rattle.hv_typing.specs.Held.{ty_by}
-use Rattle.hv_rules.specs.Typing as typing
+use Rattle.hv_type_rules.specs.Typing as typing
 use Rattle.hv_typing.specs.Tests as tests
 use Rattle.hv_judge.specs.Judged as spec
 

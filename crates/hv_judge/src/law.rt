@@ -2,7 +2,7 @@
 ghost use Rattle.std.specs.Prelude.{ℕ, List, Option, Contains};
 ghost use Rattle.hv_tree.specs.declared.refusal.Refusal.{Refusal};
 ghost use Rattle.hv_tree.specs.Core.{Core};
-ghost use Rattle.hv_rules.specs.Earlier.{IsFirst};
+ghost use Rattle.hv_tree.specs.Earlier.{IsFirst};
 ghost use Rattle.hv_rules.specs.Accepted.{TypePhase, IsViolatedInPhase};
 ghost use Rattle.hv_judge.specs.Judged.{all_judged};
 ghost use Rattle.hv_judge.specs.Holding.{NamesHolders};

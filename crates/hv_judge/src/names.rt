@@ -1,8 +1,8 @@
 // What names stand for, and what may be done with them.
 ghost use Rattle.std.specs.Prelude.{◌≡◌, ◌++◌, OnOk};
 ghost use Rattle.hv_tree.specs.Core.{NoSteps};
-ghost use Rattle.hv_rules.specs.Locals.{value_of};
-ghost use Rattle.hv_rules.specs.Typing as typing;
+ghost use Rattle.hv_decls.specs.Locals.{value_of};
+ghost use Rattle.hv_type_rules.specs.Typing as typing;
 ghost use Rattle.hv_typing.specs.Tests as tests;
 ghost use Rattle.hv_typing.specs.Here as here;
 ghost use Rattle.hv_judge.specs.Seen as seen;

@@ -2,8 +2,8 @@
 ghost use Rattle.std.specs.Prelude.{◌≡◌, ◌++◌, OnOk, IfOk, Some};
 ghost use Rattle.std.specs.Option.{option_copied};
 ghost use Rattle.hv_tree.specs.Core.{core_exprs, NoSteps};
-ghost use Rattle.hv_rules.specs.Types.{BoolType, IntType};
-ghost use Rattle.hv_rules.specs.Typing as typing;
+ghost use Rattle.hv_decls.specs.Types.{BoolType, IntType};
+ghost use Rattle.hv_type_rules.specs.Typing as typing;
 ghost use Rattle.hv_scope.specs.Known.{typed};
 ghost use Rattle.hv_typing.specs.Held.{known_by, option_base};
 ghost use Rattle.hv_typing.specs.Here as here;

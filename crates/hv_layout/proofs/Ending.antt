@@ -1,13 +1,13 @@
 -- What occurs in a body has its ends among the positions that are found.
 use Rattle.std.proofs.Common.{◌≡◌, ◌⊎◌, inl, inr, ◌+◌, ◌<◌, ◌≤◌, ℕ, zero, suc, Bool, true, if◌then◌else◌, List, [], ◌∷◌, ◌++◌, length, refl, sym, ap, subst, ◌∙◌, append_assoc, arith}
 use Rattle.std.proofs.lemmas.Bool.{cases_lt}
-use Rattle.hv_tree.specs.Core.{Core}
-use Rattle.hv_rules.specs.declared.path.StaticPath.{StaticPath}
+use Rattle.hv_tree.specs.Core.{Core, end_of}
+use Rattle.hv_decls.specs.declared.path.StaticPath.{StaticPath}
 use Rattle.hv_rules.specs.declared.event.FlowEvent.{FlowEvent}
 use Rattle.hv_rules.specs.declared.event.FlowEvent.TheVariants as event
 use Rattle.hv_rules.specs.Flow.{Skip, Do, Stop, Then, Either, Loop}
-use Rattle.hv_rules.specs.Locals.{Local, CoreBody, locals_of}
-use Rattle.hv_rules.specs.Events.{Events, Mark, end_of, body_events}
+use Rattle.hv_decls.specs.Locals.{Local, CoreBody, locals_of}
+use Rattle.hv_rules.specs.Events.{Events, Mark, body_events}
 use Rattle.hv_rules.specs.States.{fields_of}
 use Rattle.hv_lemmas.proofs.Members.{Among, in_left, in_right}
 use Rattle.hv_plan.specs.declared.plan.FlowOp.{FlowOp}

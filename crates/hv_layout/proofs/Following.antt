@@ -1,8 +1,8 @@
 -- The cells of each local end where those of the next one begin.
 use Rattle.std.proofs.Common.{◌≡◌, ◌+◌, ◌≤◌, ℕ, zero, suc, Bool, true, false, if◌then◌else◌, List, [], ◌∷◌, refl, sym, ap, ◌∙◌, arith}
 use Rattle.hv_tree.specs.Core.{Core}
-use Rattle.hv_rules.specs.Types.{TypeShape, LeafShape, StructShape}
-use Rattle.hv_rules.specs.Locals.{Local}
+use Rattle.hv_decls.specs.Types.{TypeShape, LeafShape, StructShape}
+use Rattle.hv_decls.specs.Locals.{Local}
 use Rattle.hv_pass.specs.declared.act.Range.{Range}
 use Rattle.hv_init_law.specs.Plain.{size, span, shape_by, ranges, kept_before, range_if, tracked_range}
 use Rattle.hv_init_law.specs.Ranked.{rank, ranked}

@@ -8,7 +8,8 @@ use hv_items::Items;
 use hv_leaves::{Leaves, Sizes};
 use hv_pass::Range;
 use hv_plan::FlowOp;
-use hv_rules::{FlowEvent, StaticPath};
+use hv_decls::StaticPath;
+use hv_rules::FlowEvent;
 use std::alloc::{AllocError as NoMemory, Global};
 
 pub(crate) fn sum(a: u32, b: u32) -> Result<u32, NoMemory>

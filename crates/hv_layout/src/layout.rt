@@ -17,7 +17,7 @@ use crate::tracked::{Tracked, kept_locals};
 use hv_leaves::{Leaves, Sizes};
 use hv_pass::Range;
 use hv_plan::FlowOp;
-use hv_rules::{StaticPath, StaticStep};
+use hv_decls::{StaticPath, StaticStep};
 use hv_scope::{Body, Declared, body_locals};
 use hv_steady::locals_with_state;
 use std::alloc::{AllocError as NoMemory, Global};

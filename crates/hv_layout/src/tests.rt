@@ -3,7 +3,7 @@ use hv_items::Items;
 use hv_leaves::Sizes;
 use hv_pass::Range;
 use hv_plan::plan_of_body;
-use hv_rules::{StaticPath, StaticStep};
+use hv_decls::{StaticPath, StaticStep};
 use hv_scope::{Body, Declared, bodies_of};
 use hv_tree::{Block, Conv, Decl, Field, Name, Param, Place, Tree, builders as build};
 use std::alloc::{AllocError as NoMemory, Global};

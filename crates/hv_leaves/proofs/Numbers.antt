@@ -3,7 +3,7 @@ use Rattle.std.proofs.Common.{◌≡◌, ◌⊎◌, inl, inr, ◌+◌, ℕ, suc,
 use Rattle.std.specs.List.{slice_get}
 use Rattle.std.specs.Str.{bytes_eq}
 use Rattle.hv_tree.specs.Core.{CoreDecl, StructOf, FunOf, CoreStruct}
-use Rattle.hv_rules.specs.Types.{struct_in}
+use Rattle.hv_decls.specs.Types.{struct_in}
 use Rattle.hv_scope.specs.Tops.{structs_in, struct_number, struct_from}
 
 -- the struct with a name, and its number

@@ -4,7 +4,7 @@ use Rattle.hv_tree.specs.declared.types.Ty.{Ty, out-Ty}
 use Rattle.hv_tree.specs.declared.types.Ty.TheOpen.{Ty-F}
 use Rattle.hv_tree.specs.Core.{Core, core_ty}
 use Rattle.hv_tree.proofs.CoreLemmas as lemmas
-use Rattle.hv_rules.specs.Types.{meant}
+use Rattle.hv_decls.specs.Types.{meant}
 use Rattle.hv_scope.specs.Tops.{struct_number}
 use Rattle.hv_leaves.specs.Table.{number_of}
 

@@ -2,8 +2,8 @@
 use Rattle.std.proofs.Common.{◌≡◌, ◌+◌, ℕ, zero, suc, List, [], ◌∷◌, length, map, Option, Some, None, refl, ap, ◌∙◌, arith}
 use Rattle.std.specs.List.{slice_get}
 use Rattle.hv_tree.specs.Core.{Core}
-use Rattle.hv_rules.specs.Types.{ValueType}
-use Rattle.hv_rules.specs.Locals.{Local}
+use Rattle.hv_decls.specs.Types.{ValueType}
+use Rattle.hv_decls.specs.Locals.{Local}
 use Rattle.hv_init_law.specs.Plain.{size, span, shifted, shape_by, ranges}
 use Rattle.hv_leaves.specs.declared.row.Row.{Row}
 use Rattle.hv_leaves.specs.declared.sizes.Sizes.{Sizes}

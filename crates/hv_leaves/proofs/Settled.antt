@@ -3,7 +3,7 @@ use Rattle.std.proofs.Common.{◌≡◌, ◌⊎◌, inl, inr, ◌≤◌, ◌+◌
 use Rattle.std.specs.List.{slice_get}
 use Rattle.std.proofs.lemmas.Option.{get_or_from_slice_get, slice_get-map}
 use Rattle.hv_tree.specs.Core.{Core}
-use Rattle.hv_rules.specs.Types.{ValueType, TypeShape, LeafShape, StructShape, shapes_of, shape}
+use Rattle.hv_decls.specs.Types.{ValueType, TypeShape, LeafShape, StructShape, shapes_of, shape}
 use Rattle.hv_pass.specs.declared.act.Range.{Range}
 use Rattle.hv_init_law.specs.Plain.{size, span, spans, shifted}
 use Rattle.hv_leaves.specs.declared.row.Part.{Part}

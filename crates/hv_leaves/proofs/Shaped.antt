@@ -3,7 +3,7 @@ use Rattle.std.proofs.Common.{◌≡◌, ◌⊎◌, inl, inr, ℕ, zero, suc, Li
 use Rattle.std.proofs.lemmas.Option.{slice_get-map}
 use Rattle.std.specs.List.{slice_get}
 use Rattle.hv_tree.specs.Core.{Core, CoreStruct}
-use Rattle.hv_rules.specs.Types.{ValueType, ParamTypes, IntType, BoolType, StructType, ArrayType, FunType, FunToType, type_of_field, fields_or_none, struct_in, TypeShape, LeafShape, StructShape, NoShapes, shapes_of, shape}
+use Rattle.hv_decls.specs.Types.{ValueType, ParamTypes, IntType, BoolType, StructType, ArrayType, FunType, FunToType, type_of_field, fields_or_none, struct_in, TypeShape, LeafShape, StructShape, NoShapes, shapes_of, shape}
 use Rattle.hv_scope.specs.Tops.{structs_in, struct_number}
 use Rattle.hv_init_law.specs.Plain.{size, span, none_there}
 use Rattle.hv_leaves.specs.Table.{number_of, row_of, table_of}

@@ -2,7 +2,7 @@
 use Rattle.std.proofs.Common.{◌≡◌, ◌⊎◌, inl, inr, ◌≤◌, ◌+◌, ℕ, zero, suc, List, [], ◌∷◌, map, Option, Some, None, option_map, refl, sym, ap, ◌∙◌, arith}
 use Rattle.std.proofs.lemmas.Option.{get_or_from_slice_get, slice_get-map}
 use Rattle.hv_tree.specs.Core.{Core}
-use Rattle.hv_rules.specs.Types.{ValueType, shapes_of, shape}
+use Rattle.hv_decls.specs.Types.{ValueType, shapes_of, shape}
 use Rattle.hv_init_law.specs.Plain.{or_one, size, sizes}
 use Rattle.hv_leaves.specs.Table.{number_of, table_of}
 use Rattle.hv_leaves.specs.Rounds as spec

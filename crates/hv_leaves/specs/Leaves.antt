@@ -1,8 +1,8 @@
 -- Where the leaves of a body's locals stand.
 use Rattle.std.specs.Prelude.{◌≡◌, ℕ, ◌+◌, List, [], ◌∷◌}
 use Rattle.hv_tree.specs.Core.{Core}
-use Rattle.hv_rules.specs.Types.{ValueType, shape, most_depth}
-use Rattle.hv_rules.specs.Locals.{Local}
+use Rattle.hv_decls.specs.Types.{ValueType, shape, most_depth}
+use Rattle.hv_decls.specs.Locals.{Local}
 use Rattle.hv_pass.specs.declared.act.Range.{Range}
 use Rattle.hv_init_law.specs.Plain.{size, span, shifted, shape_by}
 use Rattle.hv_leaves.specs.declared.row.Part.{Part}

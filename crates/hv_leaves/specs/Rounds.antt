@@ -1,6 +1,6 @@
 -- How many leaves structs have, in rounds: after the n-th one that is known of structs of at most n levels.
 use Rattle.std.specs.Prelude.{ℕ, zero, suc, ◌+◌, List, [], ◌∷◌, map, get_or, Option, Some, None}
-use Rattle.hv_rules.specs.Types.{most_depth}
+use Rattle.hv_decls.specs.Types.{most_depth}
 
 abbrev pub known_at : List (Option ℕ) → Option ℕ → Option ℕ
 known_at known None = Some 1

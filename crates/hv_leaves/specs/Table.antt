@@ -1,8 +1,8 @@
 -- The structs of a program by number, each with the structs that its fields are.
 use Rattle.std.specs.Prelude.{ℕ, List, map, Option, Some, None}
 use Rattle.hv_tree.specs.Core.{Core, CoreStruct}
-use Rattle.hv_rules.specs.Types.{ValueType, IntType, BoolType, StructType, ArrayType, FunType, FunToType, type_of_field}
-use Rattle.hv_rules.specs.Locals.{Local}
+use Rattle.hv_decls.specs.Types.{ValueType, IntType, BoolType, StructType, ArrayType, FunType, FunToType, type_of_field}
+use Rattle.hv_decls.specs.Locals.{Local}
 use Rattle.hv_scope.specs.Tops.{structs_in, struct_number}
 
 -- the number of the struct that a type is; what is none is a leaf

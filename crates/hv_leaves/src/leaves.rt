@@ -1,6 +1,6 @@
 ghost use Rattle.std.specs.Prelude.{◌≡◌, IfOk, List, length, map};
 ghost use Rattle.hv_tree.specs.Core.{Core, core_tree};
-ghost use Rattle.hv_rules.specs.Locals.{Local};
+ghost use Rattle.hv_decls.specs.Locals.{Local};
 ghost use Rattle.hv_rules.specs.States.{fields_of};
 ghost use Rattle.hv_scope.specs.Known.{local_by};
 ghost use Rattle.hv_init_law.specs.Plain.{ranges};
@@ -11,7 +11,7 @@ use crate::row::{Row, row_from};
 use crate::sizes::Sizes;
 use crate::table::numbers_of;
 use hv_pass::Range;
-use hv_rules::StaticStep;
+use hv_decls::StaticStep;
 use hv_scope::{Declared, Known};
 use std::alloc::{AllocError as NoMemory, Global};
 

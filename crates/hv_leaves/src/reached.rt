@@ -7,7 +7,7 @@ use crate::rounds::add;
 use crate::row::{Part, Row, size_at};
 use crate::sizes::{Sizes, row_by};
 use hv_pass::Range;
-use hv_rules::StaticStep;
+use hv_decls::StaticStep;
 use std::alloc::AllocError as NoMemory;
 
 #[derive(Clone, Copy)]

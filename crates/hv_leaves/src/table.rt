@@ -1,7 +1,7 @@
 // The structs of a program by number, each with the structs that its fields are.
 ghost use Rattle.std.specs.Prelude.{◌≡◌, map, IfOk};
 ghost use Rattle.hv_tree.specs.Core.{core_tree, core_ty, core_field};
-ghost use Rattle.hv_rules.specs.Types.{meant, type_of_field};
+ghost use Rattle.hv_decls.specs.Types.{meant, type_of_field};
 ghost use Rattle.hv_scope.specs.Known.{local_by};
 ghost use Rattle.hv_leaves.specs.Table as spec;
 

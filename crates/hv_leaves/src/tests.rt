@@ -1,6 +1,6 @@
 use crate::{Leaves, Sizes};
 use hv_pass::Range;
-use hv_rules::StaticStep;
+use hv_decls::StaticStep;
 use hv_scope::{Declared, Kind, Known};
 use hv_tree::{Decl, Field, Name, Place, Tree, Ty, builders as build};
 use std::alloc::{AllocError as NoMemory, Global};

@@ -5,8 +5,8 @@ use Rattle.std.specs.Option.{option_copied}
 use Rattle.std.proofs.lemmas.Option.{slice_get-map}
 use Rattle.hv_tree.specs.declared.ast.Tree.{Tree}
 use Rattle.hv_tree.specs.Core.{core_tree}
-use Rattle.hv_rules.specs.Locals.{Local, CoreBody, locals_of}
-use Rattle.hv_rules.specs.Sites.{bodies_of}
+use Rattle.hv_decls.specs.Locals.{Local, CoreBody, locals_of}
+use Rattle.hv_decls.specs.Sites.{bodies_of}
 use Rattle.hv_scope.specs.Known.{local_by}
 use Rattle.hv_scope.specs.Bodies.{body_by}
 use Rattle.hv_level.specs.declared.scoped.Scoped.{Scoped}

@@ -4,11 +4,10 @@ use Rattle.std.proofs.lemmas.Bool.{eqb-true}
 use Rattle.hv_tree.specs.declared.place.Place.{Place}
 use Rattle.hv_tree.specs.declared.ast.Tree.{Tree}
 use Rattle.hv_tree.specs.declared.ast.Block.{Block, out-Block}
-use Rattle.hv_tree.specs.Core.{core_tree, core_block}
+use Rattle.hv_tree.specs.Core.{core_tree, core_block, end_of}
 use Rattle.hv_tree.proofs.CoreLemmas.{opened_block}
-use Rattle.hv_rules.specs.Locals.{CoreBody}
-use Rattle.hv_rules.specs.Sites.{bodies_of}
-use Rattle.hv_rules.specs.Events.{end_of}
+use Rattle.hv_decls.specs.Locals.{CoreBody}
+use Rattle.hv_decls.specs.Sites.{bodies_of}
 use Rattle.hv_copying.specs.Places.{number_from}
 use Rattle.hv_level.specs.Programs.{end_place}
 use Rattle.hv_level.specs.Firsts.{place_from, first_place}

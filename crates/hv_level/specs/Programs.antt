@@ -1,8 +1,8 @@
 -- The bodies of a program as the code knows them.
 use Rattle.std.specs.Prelude.{ℕ, List, map, Option, Some, None}
 use Rattle.std.specs.Borrow.{Bor}
-use Rattle.hv_rules.specs.Locals.{Local, CoreBody, locals_of}
-use Rattle.hv_rules.specs.Events.{end_of}
+use Rattle.hv_decls.specs.Locals.{Local, CoreBody, locals_of}
+use Rattle.hv_tree.specs.Core.{end_of}
 use Rattle.hv_scope.specs.Known.{local_by}
 use Rattle.hv_scope.specs.Bodies.{body_by}
 use Rattle.hv_level.specs.declared.scoped.Scoped.{Scoped}

@@ -1,7 +1,7 @@
 // What names stand for.
 ghost use Rattle.std.specs.Prelude.{◌≡◌, ℕ};
 ghost use Rattle.hv_tree.specs.Core.{core_steps};
-ghost use Rattle.hv_rules.specs.Types.{fun_in, struct_in};
+ghost use Rattle.hv_decls.specs.Types.{fun_in, struct_in};
 ghost use Rattle.hv_copying.specs.Places as places;
 ghost use Rattle.hv_copying.specs.Calls as calls;
 ghost use Rattle.hv_copying.specs.Evaluate as evaluate;

@@ -1,10 +1,9 @@
 // A program whose declarations and bodies are found at once.
 ghost use Rattle.std.specs.Prelude.{◌≡◌, ◌++◌, [], ◌∷◌, map, IfOk, OnOk, IfSome};
 ghost use Rattle.std.specs.List.{slice_get};
-ghost use Rattle.hv_tree.specs.Core.{core_tree, core_block};
-ghost use Rattle.hv_rules.specs.Locals.{locals_of};
-ghost use Rattle.hv_rules.specs.Sites as sites;
-ghost use Rattle.hv_rules.specs.Events.{end_of};
+ghost use Rattle.hv_tree.specs.Core.{core_tree, core_block, end_of};
+ghost use Rattle.hv_decls.specs.Locals.{locals_of};
+ghost use Rattle.hv_decls.specs.Sites as sites;
 ghost use Rattle.hv_scope.specs.Known.{local_by};
 ghost use Rattle.hv_scope.specs.Bodies.{body_by};
 ghost use Rattle.hv_copying.specs.Places.{body_number};
@@ -33,7 +32,7 @@ impl<'t> Model for Program<'t> {
     ghost use Rattle.hv_tree.specs.contracts.types.Ty as ty;
     ghost use Rattle.hv_tree.specs.declared.ast.Tree.{Tree};
     ghost use Rattle.hv_tree.specs.Core.{core_tree};
-    ghost use Rattle.hv_rules.specs.Sites.{bodies_of};
+    ghost use Rattle.hv_decls.specs.Sites.{bodies_of};
     ghost use Rattle.hv_level.specs.Programs.{with_locals, scoped_by, end_place};
 
     ghost Value = { Tree };

@@ -8,8 +8,8 @@ use Rattle.hv_tree.specs.declared.ast.Tree.{Tree}
 use Rattle.hv_tree.specs.Tokens.{Tokens}
 use Rattle.hv_tree.specs.Grammar.{Spells}
 use Rattle.hv_tree.specs.Core.{core_tree}
-use Rattle.hv_rules.specs.Names.{IsViolatedByNames}
-use Rattle.hv_rules.specs.TypeRules.{IsViolatedByTypes}
+use Rattle.hv_type_rules.specs.Names.{IsViolatedByNames}
+use Rattle.hv_type_rules.specs.TypeRules.{IsViolatedByTypes}
 use Rattle.hv_rules.specs.Rules.{IsViolatedByEvents}
 use Rattle.hv_token.specs.Lexes.{Lexes}
 use Rattle.hv_copying.specs.Node.{Node}

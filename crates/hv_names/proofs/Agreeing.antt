@@ -4,9 +4,9 @@ use Rattle.std.specs.Str.{bytes_eq}
 use Rattle.std.specs.Cmp.Lexicographic.{bytes_decides}
 use Rattle.hv_tree.specs.declared.types.Name.{Name}
 use Rattle.hv_tree.specs.Core.{CoreParam, CoreBlock, CoreStmt, Var, VarWith, Let, Inout, Assign, If, While, Return, ReturnWith, Print, Task, AwaitsAlone, CallsAlone, Bare, CoreTy}
-use Rattle.hv_rules.specs.Locals.{Local, local_in, param_local}
-use Rattle.hv_rules.specs.Sites.{Scope, scope_behind, capture_local, lambda_body, body_scope}
-use Rattle.hv_rules.specs.Names.{local_name}
+use Rattle.hv_decls.specs.Locals.{Local, local_in, param_local}
+use Rattle.hv_decls.specs.Sites.{Scope, scope_behind, capture_local, lambda_body, body_scope}
+use Rattle.hv_type_rules.specs.Names.{local_name}
 use Rattle.hv_texts.specs.Texts.{has}
 use Rattle.hv_names.specs.Found as spec
 use Rattle.hv_names.proofs.Repeated.{Has, is_there, there_is, has_either, has_left, has_right}

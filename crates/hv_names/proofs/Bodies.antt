@@ -4,9 +4,9 @@ use Rattle.std.proofs.lemmas.List.{map-append}
 use Rattle.hv_tree.specs.declared.types.Name.{Name}
 use Rattle.hv_tree.specs.declared.refusal.Refusal.{Refusal}
 use Rattle.hv_tree.specs.Core.{CoreFun, CoreParam, CoreTy, CoreBlock, BlockOf, CoreStmts, NoStmts, StmtOf, CoreBranches, NoElse, Else, BranchOf, CoreStmt, Var, VarWith, Let, Inout, Assign, If, While, Return, ReturnWith, Print, Task, AwaitsAlone, CallsAlone, Bare}
-use Rattle.hv_rules.specs.Locals.{Local, Captured, declared_in, in_branches, in_block, in_stmts, CoreBody, fun_body, locals_of, param_local}
-use Rattle.hv_rules.specs.Sites.{Scope, capture_local, lambda_body}
-use Rattle.hv_rules.specs.Names.{local_name}
+use Rattle.hv_decls.specs.Locals.{Local, Captured, declared_in, in_branches, in_block, in_stmts, CoreBody, fun_body, locals_of, param_local}
+use Rattle.hv_decls.specs.Sites.{Scope, capture_local, lambda_body}
+use Rattle.hv_type_rules.specs.Names.{local_name}
 use Rattle.hv_names.specs.declared.program.Program.{Program}
 use Rattle.hv_names.specs.Found as spec
 use Rattle.hv_lemmas.proofs.Members.{Among, in_left, in_right, either_in}

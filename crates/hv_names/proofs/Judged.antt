@@ -5,9 +5,9 @@ use Rattle.hv_tree.specs.declared.types.Name.{Name}
 use Rattle.hv_tree.specs.declared.refusal.Rule.TheVariants as rule
 use Rattle.hv_tree.specs.declared.refusal.Refusal.{Refusal}
 use Rattle.hv_tree.specs.Core.{CoreParam, CoreTy, CoreExpr, Number, Truth, Path, Calls, Awaits, Array, Filled, Count, Lambda, Prefix, Chain, CoreBlock, CoreStmt, Var, VarWith, Let, Inout, Assign, If, While, Return, ReturnWith, Print, Task, AwaitsAlone, CallsAlone, Bare}
-use Rattle.hv_rules.specs.Locals.{Local, listed}
-use Rattle.hv_rules.specs.Sites.{Part, ExprPart, CallPart, PlacePart, StmtPart, TestPart, Site}
-use Rattle.hv_rules.specs.Names.{names_in_all, types_of, used_by, captured_by, param_type}
+use Rattle.hv_decls.specs.Locals.{Local, listed}
+use Rattle.hv_decls.specs.Sites.{Part, ExprPart, CallPart, PlacePart, StmtPart, TestPart, Site}
+use Rattle.hv_type_rules.specs.Names.{names_in_all, types_of, used_by, captured_by, param_type}
 use Rattle.hv_names.specs.declared.program.Program.{Program}
 use Rattle.hv_texts.specs.Texts.{has}
 use Rattle.hv_names.specs.Found as spec

@@ -4,8 +4,8 @@ use Rattle.hv_tree.specs.declared.place.Place.{Place}
 use Rattle.hv_tree.specs.declared.types.Name.{Name}
 use Rattle.hv_tree.specs.declared.refusal.Refusal.{Refusal}
 use Rattle.hv_tree.specs.Core.{CoreDecl, StructOf, FunOf, CoreFun, CoreParam, CoreTy, CoreBlock, CoreExpr, Number, Truth, Path, Calls, Awaits, Array, Filled, Count, Lambda, Prefix, Chain}
-use Rattle.hv_rules.specs.Locals.{CoreBody, fun_body}
-use Rattle.hv_rules.specs.Sites.{Part, ExprPart, CallPart, PlacePart, StmtPart, TestPart, Scope, Site, lambda_body, body_scope, sites_of_body, decl_sites, body_by, lambdas_at, decl_bodies}
+use Rattle.hv_decls.specs.Locals.{CoreBody, fun_body}
+use Rattle.hv_decls.specs.Sites.{Part, ExprPart, CallPart, PlacePart, StmtPart, TestPart, Scope, Site, lambda_body, body_scope, sites_of_body, decl_sites, body_by, lambdas_at, decl_bodies}
 use Rattle.hv_names.specs.declared.program.Program.{Program}
 use Rattle.hv_names.specs.Found as spec
 use Rattle.hv_lemmas.proofs.Members.{Among, in_left, in_right, either_in}

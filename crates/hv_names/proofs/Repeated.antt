@@ -6,7 +6,7 @@ use Rattle.hv_tree.specs.declared.place.Place.{Place}
 use Rattle.hv_tree.specs.declared.types.Name.{Name}
 use Rattle.hv_tree.specs.declared.refusal.Rule.TheVariants as rule
 use Rattle.hv_tree.specs.declared.refusal.Refusal.{Refusal}
-use Rattle.hv_rules.specs.Names.{Named, Repeats}
+use Rattle.hv_type_rules.specs.Names.{Named, Repeats}
 use Rattle.hv_texts.specs.Texts.{index_from, index_of, has}
 use Rattle.hv_names.specs.Found as spec
 use Rattle.hv_lemmas.proofs.Members.{Among, in_left, in_right, either_in, listed, contained}

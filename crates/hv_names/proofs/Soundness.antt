@@ -8,10 +8,10 @@ use Rattle.hv_tree.specs.declared.types.Name.{Name}
 use Rattle.hv_tree.specs.declared.refusal.Rule.TheVariants as rule
 use Rattle.hv_tree.specs.declared.refusal.Refusal.{Refusal}
 use Rattle.hv_tree.specs.Core.{Core, CoreDecl, StructOf, FunOf, CoreStruct, CoreFun, CoreParam, CoreTy, CoreBlock}
-use Rattle.hv_rules.specs.Locals.{Local, Captured, CoreBody, fun_body, locals_of, local_in}
-use Rattle.hv_rules.specs.Sites.{Site, lambda_body, sites_of_body, decl_sites, decl_bodies}
-use Rattle.hv_rules.specs.Names.{Named, Repeats, SharesName, ViolatesN1, top_level, of_fields, in_body, shared, names_in_all, param_type, field_type, types_of_decl, types_of, NothingVisible, ViolatesN2, in_decl, in_type, as_used, as_captured, HasMain, ViolatesN3, local_name}
-use Rattle.hv_rules.specs.Names as names
+use Rattle.hv_decls.specs.Locals.{Local, Captured, CoreBody, fun_body, locals_of, local_in}
+use Rattle.hv_decls.specs.Sites.{Site, lambda_body, sites_of_body, decl_sites, decl_bodies}
+use Rattle.hv_type_rules.specs.Names.{Named, Repeats, SharesName, ViolatesN1, top_level, of_fields, in_body, shared, names_in_all, param_type, field_type, types_of_decl, types_of, NothingVisible, ViolatesN2, in_decl, in_type, as_used, as_captured, HasMain, ViolatesN3, local_name}
+use Rattle.hv_type_rules.specs.Names as names
 use Rattle.hv_names.specs.declared.program.Program.{Program}
 use Rattle.hv_texts.specs.Texts.{index_of, has}
 use Rattle.hv_names.specs.Found as spec

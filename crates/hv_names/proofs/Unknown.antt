@@ -6,9 +6,9 @@ use Rattle.hv_tree.specs.declared.types.Name.{Name}
 use Rattle.hv_tree.specs.declared.refusal.Rule.TheVariants as rule
 use Rattle.hv_tree.specs.declared.refusal.Refusal.{Refusal}
 use Rattle.hv_tree.specs.Core.{CoreDecl, StructOf, FunOf, CoreStruct, CoreField, CoreParam, CoreTy, IntTy, BoolTy, NamedTy, ArrayTy, FunTy, FunToTy, CoreTys, NoTys, TyOf}
-use Rattle.hv_rules.specs.Types.{struct_in}
-use Rattle.hv_rules.specs.Locals.{listed}
-use Rattle.hv_rules.specs.Names.{names_in, names_of, names_in_all, param_type, field_type}
+use Rattle.hv_decls.specs.Types.{struct_in}
+use Rattle.hv_decls.specs.Locals.{listed}
+use Rattle.hv_type_rules.specs.Names.{names_in, names_of, names_in_all, param_type, field_type}
 use Rattle.hv_names.specs.declared.program.Program.{Program}
 use Rattle.hv_texts.specs.Texts.{has}
 use Rattle.hv_names.specs.Found as spec

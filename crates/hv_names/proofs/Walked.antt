@@ -4,8 +4,8 @@ use Rattle.hv_tree.specs.declared.types.Name.{Name}
 use Rattle.hv_tree.specs.declared.refusal.Rule.TheVariants as rule
 use Rattle.hv_tree.specs.declared.refusal.Refusal.{Refusal}
 use Rattle.hv_tree.specs.Core.{CoreExpr, Awaits, Lambda, CoreStmt, Var, VarWith, Let, Inout, Task, AwaitsAlone}
-use Rattle.hv_rules.specs.Locals.{Local, local_in}
-use Rattle.hv_rules.specs.Sites.{Part, ExprPart, CallPart, PlacePart, StmtPart, TestPart, Site}
+use Rattle.hv_decls.specs.Locals.{Local, local_in}
+use Rattle.hv_decls.specs.Sites.{Part, ExprPart, CallPart, PlacePart, StmtPart, TestPart, Site}
 use Rattle.hv_names.specs.declared.program.Program.{Program}
 use Rattle.hv_texts.specs.Texts.{has}
 use Rattle.hv_names.specs.Found as spec

@@ -8,10 +8,10 @@ use Rattle.hv_tree.specs.declared.refusal.Rule.{Rule}
 use Rattle.hv_tree.specs.declared.refusal.Rule.TheVariants as rule
 use Rattle.hv_tree.specs.declared.refusal.Refusal.{Refusal}
 use Rattle.hv_tree.specs.Core.{CoreDecl, StructOf, FunOf, CoreStruct, CoreFun}
-use Rattle.hv_rules.specs.Locals.{Local, Captured, CoreBody, fun_body, locals_of, local_in, listed}
-use Rattle.hv_rules.specs.Sites.{Site, sites_of_body, decl_sites, lambdas_at, decl_bodies}
-use Rattle.hv_rules.specs.Types.{struct_in}
-use Rattle.hv_rules.specs.Names.{Named, Repeats, ViolatesN1, top_level, of_fields, in_body, shared, names_in_all, param_type, field_type, types_of_decl, types_of, used_by, captured_by, ViolatesN2, in_decl, in_type, as_used, as_captured, HasMain, local_name, IsViolatedByNames}
+use Rattle.hv_decls.specs.Locals.{Local, Captured, CoreBody, fun_body, locals_of, local_in, listed}
+use Rattle.hv_decls.specs.Sites.{Site, sites_of_body, decl_sites, lambdas_at, decl_bodies}
+use Rattle.hv_decls.specs.Types.{struct_in}
+use Rattle.hv_type_rules.specs.Names.{Named, Repeats, ViolatesN1, top_level, of_fields, in_body, shared, names_in_all, param_type, field_type, types_of_decl, types_of, used_by, captured_by, ViolatesN2, in_decl, in_type, as_used, as_captured, HasMain, local_name, IsViolatedByNames}
 use Rattle.hv_names.specs.declared.program.Program.{Program}
 use Rattle.hv_texts.specs.Texts.{index_of, has}
 use Rattle.hv_names.specs.Found as spec

@@ -4,7 +4,6 @@
 mod declared;
 mod decls;
 mod entry;
-mod least;
 mod phases;
 mod program;
 #[cfg(test)]
@@ -12,5 +11,4 @@ mod tests;
 mod types;
 mod walk;
 
-pub use least::first;
 pub use phases::names;

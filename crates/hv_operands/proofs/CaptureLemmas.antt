@@ -2,8 +2,8 @@
 use Rattle.std.proofs.Common.{◌≡◌, ℕ, [], List, Some, None, refl, ap}
 use Rattle.hv_tree.specs.declared.types.Name.{Name}
 use Rattle.hv_tree.specs.Core.{CoreBlock}
-use Rattle.hv_rules.specs.Locals.{number_in}
-use Rattle.hv_rules.specs.Sites.{bodies_of}
+use Rattle.hv_decls.specs.Locals.{number_in}
+use Rattle.hv_decls.specs.Sites.{bodies_of}
 use Rattle.hv_value.specs.ValueTree.{Closure, row}
 use Rattle.hv_copying.specs.declared.end.Cause.TheVariants.{Kinds}
 use Rattle.hv_copying.specs.Run.{Halted, Stuck, and_then, ◌>>=◌, pure, halt, stuck, known}

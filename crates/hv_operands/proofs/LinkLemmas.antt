@@ -16,8 +16,8 @@ use Rattle.hv_tree.specs.declared.ast.StmtKind.{StmtKind}
 use Rattle.hv_tree.specs.declared.ast.Arg.TheOpen.{Step-F}
 use Rattle.hv_tree.specs.Core.{CoreExpr, CoreSteps, NoSteps, IndexStep, core_of, core_step, core_steps}
 use Rattle.hv_tree.proofs.CoreLemmas as lemmas
-use Rattle.hv_rules.specs.Types.{ValueType, FieldAt}
-use Rattle.hv_rules.specs.Events.{field_at, element_at}
+use Rattle.hv_decls.specs.Types.{ValueType, FieldAt}
+use Rattle.hv_decls.specs.Statics.{field_at, element_at}
 use Rattle.hv_value.specs.Walk.{Link, ToField, ToIndex}
 use Rattle.hv_copying.specs.declared.end.Cause.TheVariants.{Kinds}
 use Rattle.hv_copying.specs.Run.{Is, Halted, Stuck, and_then, ◌>>=◌, pure, halt, known}

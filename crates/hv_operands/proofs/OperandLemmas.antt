@@ -6,7 +6,8 @@ use Rattle.hv_tree.specs.declared.ast.Expr.{Expr}
 use Rattle.hv_tree.specs.declared.ast.Operator.{Operator}
 use Rattle.hv_value.specs.ValueTree.{ValueTree}
 use Rattle.hv_copying.specs.Run.{◌>>=◌, pure}
-use Rattle.hv_copying.specs.Operations.{binary, decides, applied}
+use Rattle.hv_copying.specs.Operations.{applied}
+use Rattle.hv_value.specs.Operators.{binary, decides}
 use Rattle.hv_copying.proofs.RunLaws.{bind_assoc}
 use Rattle.hv_flat.specs.Accesses.{Plain}
 use Rattle.hv_lemmas.proofs.Lists.{first_left}

@@ -17,8 +17,8 @@ use Rattle.hv_tree.specs.declared.ast.StmtKind.{StmtKind}
 use Rattle.hv_tree.specs.declared.ast.Arg.TheOpen.{ExprKind-F}
 use Rattle.hv_tree.specs.Core.{CoreExpr, CoreSteps, core_of, core_kind, core_place}
 use Rattle.hv_tree.proofs.CoreLemmas as lemmas
-use Rattle.hv_rules.specs.Locals.{number_in}
-use Rattle.hv_rules.specs.Types.{ValueType}
+use Rattle.hv_decls.specs.Locals.{number_in}
+use Rattle.hv_decls.specs.Types.{ValueType}
 use Rattle.hv_value.specs.ValueTree.{ValueTree, Hole, Number}
 use Rattle.hv_value.specs.Places.{Path, get}
 use Rattle.hv_value.specs.Operators.{length_of}

@@ -6,8 +6,8 @@ use Rattle.hv_tree.specs.declared.place.Place.{Place}
 use Rattle.hv_tree.specs.declared.types.Ty.{Ty}
 use Rattle.hv_tree.specs.declared.ast.Step.{Step}
 use Rattle.hv_tree.specs.Core.{CoreExpr, CoreSteps, NoSteps, FieldStep, IndexStep, core_step, core_steps}
-use Rattle.hv_rules.specs.Types.{ValueType, FieldAt}
-use Rattle.hv_rules.specs.Events.{field_at, element_at}
+use Rattle.hv_decls.specs.Types.{ValueType, FieldAt}
+use Rattle.hv_decls.specs.Statics.{field_at, element_at}
 use Rattle.hv_value.specs.ValueTree.{ValueTree}
 use Rattle.hv_value.specs.Walk.{Link, ToField, ToIndex}
 use Rattle.hv_copying.specs.declared.end.Cause.TheVariants.{Kinds}

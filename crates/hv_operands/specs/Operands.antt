@@ -5,11 +5,12 @@ use Rattle.hv_tree.specs.declared.types.Name.{Name}
 use Rattle.hv_tree.specs.declared.ast.Expr.{Expr}
 use Rattle.hv_tree.specs.declared.ast.Operator.{Operator}
 use Rattle.hv_tree.specs.Core.{CoreBlock, core_exprs, core_links}
-use Rattle.hv_rules.specs.Sites.{bodies_of}
+use Rattle.hv_decls.specs.Sites.{bodies_of}
 use Rattle.hv_value.specs.ValueTree.{ValueTree, Elements, Closure, row}
 use Rattle.hv_copying.specs.declared.end.Cause.TheVariants.{Kinds}
 use Rattle.hv_copying.specs.Run.{◌>>=◌, pure, known}
-use Rattle.hv_copying.specs.Operations.{number, unary, binary, applied, filled_with}
+use Rattle.hv_copying.specs.Operations.{number, applied, filled_with}
+use Rattle.hv_value.specs.Operators.{unary, binary}
 use Rattle.hv_copying.specs.Places.{body_number, local}
 use Rattle.hv_flat.specs.Accesses.{Plain, look}
 use Rattle.hv_flat.specs.Parts.{captured_from, copied}

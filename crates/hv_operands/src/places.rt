@@ -3,7 +3,7 @@
 ghost use Rattle.std.specs.Prelude.{◌≡◌, ℕ, pos, IfOk, option_map};
 ghost use Rattle.std.specs.Option.{option_copied};
 ghost use Rattle.hv_tree.specs.Core.{core_of, core_steps};
-ghost use Rattle.hv_rules.specs.Locals.{number_in};
+ghost use Rattle.hv_decls.specs.Locals.{number_in};
 ghost use Rattle.hv_value.specs.ValueTree.{Number};
 ghost use Rattle.hv_flat.specs.Flat as flat;
 ghost use Rattle.hv_flat.specs.Parts as spec;

@@ -2,7 +2,7 @@
 use Rattle.std.proofs.Common.{◌≡◌, ◌⊎◌, inl, inr, ℕ, ◌<◌, ◌≤◌, Bool, true, false, ◌||◌, ◌&&◌, nat_lt, nat_eq, if◌then◌else◌, Option, Some, None, refl, sym, subst, arith}
 use Rattle.std.proofs.lemmas.Bool.Decides.{nat_tests}
 use Rattle.hv_tree.specs.declared.refusal.Refusal.{Refusal}
-use Rattle.hv_rules.specs.Earlier.{number_of, NotAfter, IsFirst}
+use Rattle.hv_tree.specs.Earlier.{number_of, NotAfter, IsFirst}
 use Rattle.hv_pass.specs.Cells.{is_before, earlier, when}
 
 pub same_first : (P S : Refusal → Type 0) (v : Option Refusal) → ((r : Refusal) → P r → S r) → ((r : Refusal) → S r → P r) → IsFirst P v → IsFirst S v

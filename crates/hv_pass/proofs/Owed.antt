@@ -2,7 +2,7 @@
 use Rattle.std.proofs.Common.{◌≡◌, ◌⊎◌, inl, inr, ℕ, zero, suc, ◌+◌, nat_eq, Bool, true, false, not, ◌&&◌, if◌then◌else◌, List, [], ◌∷◌, ◌++◌, slice_get, Option, Some, None, refl, sym, ◌∙◌, ap, subst, arith}
 use Rattle.std.proofs.lemmas.Bool.Decides.{nat_tests}
 use Rattle.hv_tree.specs.declared.refusal.Refusal.{Refusal}
-use Rattle.hv_rules.specs.Earlier.{NotAfter, IsFirst}
+use Rattle.hv_tree.specs.Earlier.{NotAfter, IsFirst}
 use Rattle.hv_versions.specs.declared.cell.Cell.{Cell}
 use Rattle.hv_pass.specs.declared.asked.Asked.{Asked}
 use Rattle.hv_pass.specs.declared.asked.Entry.{Entry}

@@ -1,7 +1,7 @@
 -- What is refused and asked of cells, as the pass computes it.
 use Rattle.std.specs.Prelude.{ℕ, zero, suc, ◌+◌, nat_lt, nat_eq, Bool, false, ◌&&◌, ◌||◌, not, if◌then◌else◌, List, [], ◌∷◌, ◌++◌, length, slice_get, Option, Some, None}
 use Rattle.hv_tree.specs.declared.refusal.Refusal.{Refusal}
-use Rattle.hv_rules.specs.Earlier.{number_of}
+use Rattle.hv_tree.specs.Earlier.{number_of}
 use Rattle.hv_versions.specs.declared.cell.Cell.{Cell}
 use Rattle.hv_versions.specs.Cells.{cell_may}
 use Rattle.hv_pass.specs.declared.asked.Asked.{Asked}

@@ -1,7 +1,7 @@
 // The first refusal of a plan, in one pass over its words.
 ghost use Rattle.std.specs.Prelude.{◌≡◌, ◌∷◌, [], List, IfOk, OnOk, Some, None};
 ghost use Rattle.hv_rules.specs.Flow.{Flow};
-ghost use Rattle.hv_rules.specs.Earlier.{IsFirst};
+ghost use Rattle.hv_tree.specs.Earlier.{IsFirst};
 ghost use Rattle.hv_pass.specs.declared.act.Act.{Act};
 ghost use Rattle.hv_pass.specs.declared.known.Frame.TheVariants as frame;
 ghost use Rattle.hv_pass.specs.Plans.{plan_of};

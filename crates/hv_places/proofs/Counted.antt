@@ -5,9 +5,9 @@ use Rattle.std.proofs.lemmas.Bool.{eqb-true, eq-eqb}
 use Rattle.hv_tree.specs.declared.place.Place.{Place}
 use Rattle.hv_tree.specs.declared.token.Token.{Token}
 use Rattle.hv_tree.specs.Tokens.{Tokens}
-use Rattle.hv_rules.specs.Locals.{CoreBody}
-use Rattle.hv_rules.specs.Sites.{Site, body_by, lambdas_at}
-use Rattle.hv_rules.specs.Events.{end_of}
+use Rattle.hv_decls.specs.Locals.{CoreBody}
+use Rattle.hv_decls.specs.Sites.{Site, body_by, lambdas_at}
+use Rattle.hv_tree.specs.Core.{end_of}
 use Rattle.hv_places.specs.TokenPlaces.{Before, Rise}
 use Rattle.hv_places.specs.Ends.{end_start}
 use Rattle.hv_lemmas.proofs.Each.{Each}

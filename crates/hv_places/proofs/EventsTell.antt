@@ -6,14 +6,14 @@ use Rattle.hv_tree.specs.declared.types.Conv.{Conv}
 use Rattle.hv_tree.specs.declared.types.Conv.TheVariants as conv
 use Rattle.hv_tree.specs.declared.ast.Operator.{Operator}
 use Rattle.hv_tree.specs.declared.refusal.Rule.{Rule}
-use Rattle.hv_tree.specs.Core.{Core, CoreExpr, Number, Truth, Path, Calls, Awaits, Array, Filled, Count, Lambda, Prefix, Chain, CoreExprs, NoExprs, ExprOf, CoreLinks, NoLinks, LinkOf, CoreSteps, NoSteps, FieldStep, IndexStep, CoreCall, CallOf, CoreArgs, NoArgs, ValueArg, RefArg, CoreBlock, BlockOf, CoreStmts, NoStmts, StmtOf, CoreBranches, NoElse, Else, BranchOf, CoreStmt, Var, VarWith, Let, Inout, Assign, If, While, Return, ReturnWith, Print, Task, AwaitsAlone, CallsAlone, Bare}
-use Rattle.hv_rules.specs.declared.path.StaticPath.{StaticPath}
+use Rattle.hv_tree.specs.Core.{Core, CoreExpr, Number, Truth, Path, Calls, Awaits, Array, Filled, Count, Lambda, Prefix, Chain, CoreExprs, NoExprs, ExprOf, CoreLinks, NoLinks, LinkOf, CoreSteps, NoSteps, FieldStep, IndexStep, CoreCall, CallOf, CoreArgs, NoArgs, ValueArg, RefArg, CoreBlock, BlockOf, CoreStmts, NoStmts, StmtOf, CoreBranches, NoElse, Else, BranchOf, CoreStmt, Var, VarWith, Let, Inout, Assign, If, While, Return, ReturnWith, Print, Task, AwaitsAlone, CallsAlone, Bare, end_of, stmts_in}
+use Rattle.hv_decls.specs.declared.path.StaticPath.{StaticPath}
 use Rattle.hv_rules.specs.declared.event.FlowEvent.{FlowEvent}
 use Rattle.hv_rules.specs.declared.event.FlowEvent.TheVariants as event
-use Rattle.hv_rules.specs.Locals.{LocalKind, Captured, Passed, VarBound, LetBound, InoutBound, Handle, Local, CoreBody, entry_locals, locals_of, number_in, in_block as declared_in_block}
-use Rattle.hv_rules.specs.Sites.{Part, ExprPart, CallPart, PlacePart, StmtPart, TestPart, Scope, Site, sites_of, bodies_of}
+use Rattle.hv_decls.specs.Locals.{LocalKind, Captured, Passed, VarBound, LetBound, InoutBound, Handle, Local, CoreBody, entry_locals, locals_of, number_in, in_block as declared_in_block}
+use Rattle.hv_decls.specs.Sites.{Part, ExprPart, CallPart, PlacePart, StmtPart, TestPart, Scope, Site, sites_of, bodies_of}
 use Rattle.hv_rules.specs.Flow.{Flow, Skip, Do, Stop, Then, Either, Loop, Turns, none, more, Ends, Leaves, IsWhole, IsTrace}
-use Rattle.hv_rules.specs.Events.{Mark, Events, Doing, uses, inits, declaring, declared, Callee, next_conv, other_convs, Way, ByCall, BySpawn, given, lent, with_close, is_short, linked, opens_place, is_local, on_root, on_handle, awaited, captured, callee_of, expr_events, part_events, link_events, index_events, call_events, arg_events, value_events, place_events, Around, entered, behind, behind_block, return_at, scope_end, stmt_events, branch_events, block_events, stmts_events, entry_event, entry_events, end_of, stmts_in, body_around, body_end, body_events}
+use Rattle.hv_rules.specs.Events.{Mark, Events, Doing, uses, inits, declaring, declared, Callee, next_conv, other_convs, Way, ByCall, BySpawn, given, lent, with_close, is_short, linked, opens_place, is_local, on_root, on_handle, awaited, captured, callee_of, expr_events, part_events, link_events, index_events, call_events, arg_events, value_events, place_events, Around, entered, behind, behind_block, return_at, scope_end, stmt_events, branch_events, block_events, stmts_events, entry_event, entry_events, body_around, body_end, body_events}
 use Rattle.hv_rules.specs.Rules.{IsViolatedIn, TakesChange, SpawnsChange, ViolatesS3, IsViolatedByEvents, in_body, at_task}
 use Rattle.hv_places.specs.Places.{in_ty, in_result, in_names, in_params, in_expr, in_exprs, in_links, in_steps, in_call, in_args, in_block, in_stmts, in_branches, in_stmt, places_of, IsIn}
 use Rattle.hv_lemmas.proofs.Each.{Each, each_split, each_join, each_at, each_contained}

@@ -11,7 +11,6 @@ pub mod TypesTell
 pub mod NamesTell
 pub mod EventsTell
 -- the places of a tree that tokens spell
-pub mod CoreParts
 pub mod TypesSay
 pub mod TreesSay
 -- where bodies end

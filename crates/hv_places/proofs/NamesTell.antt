@@ -5,10 +5,10 @@ use Rattle.hv_tree.specs.declared.types.Name.{Name}
 use Rattle.hv_tree.specs.declared.refusal.Rule.{Rule}
 use Rattle.hv_tree.specs.declared.refusal.Rule.TheVariants as rule
 use Rattle.hv_tree.specs.Core.{Core, CoreDecl, StructOf, FunOf, CoreField, CoreParam, CoreTy, IntTy, BoolTy, NamedTy, ArrayTy, FunTy, FunToTy, CoreTys, NoTys, TyOf, CoreExpr, Number, Truth, Path, Calls, Awaits, Array, Filled, Count, Lambda, Prefix, Chain, CoreBlock, CoreStmt, Var, VarWith, Let, Inout, Assign, If, While, Return, ReturnWith, Print, Task, AwaitsAlone, CallsAlone, Bare}
-use Rattle.hv_rules.specs.Locals.{Local, listed, CoreBody, locals_of}
-use Rattle.hv_rules.specs.Sites.{Part, ExprPart, CallPart, PlacePart, StmtPart, TestPart, Site, sites_of, decl_bodies, bodies_of}
-use Rattle.hv_rules.specs.Names.{decl_name, field_name, local_name, Named, Repeats, SharesName, ViolatesN1, top_level, of_fields, in_body, shared, names_in, names_of, names_in_all, param_type, field_type, types_of_decl, types_of_stmt, types_of_expr, types_of, used_by_expr, used_by_stmt, used_by, captured_by_expr, captured_by, ViolatesN2, in_decl as in_declaration, in_type, as_used, as_captured, IsViolatedByNames}
-use Rattle.hv_rules.specs.TypeRules.{IsViolatedByTypes, at_part, at_struct}
+use Rattle.hv_decls.specs.Locals.{Local, listed, CoreBody, locals_of}
+use Rattle.hv_decls.specs.Sites.{Part, ExprPart, CallPart, PlacePart, StmtPart, TestPart, Site, sites_of, decl_bodies, bodies_of}
+use Rattle.hv_type_rules.specs.Names.{decl_name, field_name, local_name, Named, Repeats, SharesName, ViolatesN1, top_level, of_fields, in_body, shared, names_in, names_of, names_in_all, param_type, field_type, types_of_decl, types_of_stmt, types_of_expr, types_of, used_by_expr, used_by_stmt, used_by, captured_by_expr, captured_by, ViolatesN2, in_decl as in_declaration, in_type, as_used, as_captured, IsViolatedByNames}
+use Rattle.hv_type_rules.specs.TypeRules.{IsViolatedByTypes, at_part, at_struct}
 use Rattle.hv_places.specs.Places.{in_ty, in_tys, in_result, in_names, in_params, in_expr, in_steps, in_call, in_block, in_branches, in_stmt, in_fields, in_decl, in_decls, places_of, IsIn}
 use Rattle.hv_lemmas.proofs.Each.{Each, each_split, each_join, each_at, each_contained}
 use Rattle.hv_places.proofs.SitesTell.{PartTells, SiteTells, LocalTells, BodyTells, decl_bodies_tell, bodies_tell, sites_tell}

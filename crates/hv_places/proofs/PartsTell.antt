@@ -6,10 +6,10 @@ use Rattle.hv_tree.specs.declared.types.Name.{Name}
 use Rattle.hv_tree.specs.declared.types.Conv.{Conv}
 use Rattle.hv_tree.specs.declared.types.Conv.TheVariants as conv
 use Rattle.hv_tree.specs.Core.{Core, CoreFun, CoreStruct, CoreTy, CoreSteps, NoSteps, FieldStep, IndexStep}
-use Rattle.hv_rules.specs.Types.{fun_in, struct_in}
-use Rattle.hv_rules.specs.Locals.{Local, CoreBody, locals_of, number_in}
-use Rattle.hv_rules.specs.Sites.{bodies_of}
-use Rattle.hv_rules.specs.Events.{static_steps}
+use Rattle.hv_decls.specs.Types.{fun_in, struct_in}
+use Rattle.hv_decls.specs.Locals.{Local, CoreBody, locals_of, number_in}
+use Rattle.hv_decls.specs.Sites.{bodies_of}
+use Rattle.hv_decls.specs.Statics.{static_steps}
 use Rattle.hv_value.specs.ValueTree.{ValueTree, Hole, Number, Truth, Fields, Elements, Closure, Parts, Nil, Cons, row}
 use Rattle.hv_value.specs.Holes.{is_whole, emptied}
 use Rattle.hv_value.specs.Operators.{Given, Gives, Overflow, DivZero, BadLength, TooLong, filled, length_of}

@@ -4,8 +4,8 @@ use Rattle.std.specs.List.{slice_get}
 use Rattle.hv_tree.specs.declared.place.Place.{Place}
 use Rattle.hv_tree.specs.declared.types.Name.{Name}
 use Rattle.hv_tree.specs.Core.{Core, CoreDecl, StructOf, FunOf, CoreFun, CoreParam, CoreTy, CoreExpr, Number, Truth, Path, Calls, Awaits, Array, Filled, Count, Lambda, Prefix, Chain, CoreExprs, NoExprs, ExprOf, CoreLinks, NoLinks, LinkOf, CoreSteps, NoSteps, FieldStep, IndexStep, CoreCall, CallOf, CoreArgs, NoArgs, ValueArg, RefArg, CoreBlock, BlockOf, CoreStmts, NoStmts, StmtOf, CoreBranches, NoElse, Else, BranchOf, CoreStmt, Var, VarWith, Let, Inout, Assign, If, While, Return, ReturnWith, Print, Task, AwaitsAlone, CallsAlone, Bare}
-use Rattle.hv_rules.specs.Locals.{Local, CoreBody, fun_body, locals_of, in_block, in_stmts, in_branches, declared_in, param_local}
-use Rattle.hv_rules.specs.Sites.{Part, ExprPart, CallPart, PlacePart, StmtPart, TestPart, Scope, Site, scope_behind, capture_local, lambda_body, body_scope, expr_sites, exprs_sites, link_sites, step_sites, call_sites, arg_sites, block_sites, stmts_sites, branch_sites, stmt_sites, sites_of_body, decl_sites, sites_of, body_by_expr, body_by, lambdas_at, decl_bodies, bodies_of}
+use Rattle.hv_decls.specs.Locals.{Local, CoreBody, fun_body, locals_of, in_block, in_stmts, in_branches, declared_in, param_local}
+use Rattle.hv_decls.specs.Sites.{Part, ExprPart, CallPart, PlacePart, StmtPart, TestPart, Scope, Site, scope_behind, capture_local, lambda_body, body_scope, expr_sites, exprs_sites, link_sites, step_sites, call_sites, arg_sites, block_sites, stmts_sites, branch_sites, stmt_sites, sites_of_body, decl_sites, sites_of, body_by_expr, body_by, lambdas_at, decl_bodies, bodies_of}
 use Rattle.hv_places.specs.Places.{in_ty, in_result, in_names, in_params, in_expr, in_exprs, in_links, in_steps, in_call, in_args, in_stmts as in_statements, in_block as in_body, in_branches as in_tests, in_stmt, in_decl, in_decls, places_of}
 use Rattle.hv_lemmas.proofs.Each.{Each, each_split, each_join}
 

@@ -19,7 +19,7 @@ use Rattle.hv_tree.specs.Tokens.{Tokens, mark, keyword, word, Level, IsInfix, or
 use Rattle.hv_tree.specs.Grammar.{expr_at, place_of, IsOperand, and_operand, comparison_operand, sum_operand, product_operand, unary_operand, IsLevel, alone_level, chain_level, AreLinks, last_link, more_link, IsUnary, plain_unary, negated_unary, inverted_unary, IsPrimary, numeral_primary, truth_primary, falsehood_primary, path_primary, call_primary, group_primary, await_primary, array_primary, filled_primary, count_primary, lambda_primary, AreElements, one_element, more_element, AreSteps, none_step, field_step, index_step, IsCall, is_call, AreArgs, none_args, some_args, AreSomeArgs, one_arg, more_arg, IsArg, value_argument, ref_argument, IsBlock, is_block, AreStmts, none_stmts, more_stmts, bare_return_stmts, last_return_stmts, IsStmt, var_stmt, var_with_stmt, let_stmt, inout_stmt, assign_stmt, if_stmt, while_stmt, return_stmt, print_stmt, task_stmt, await_stmt, call_stmt, block_stmt, AreBranches, last_branch, last_else_branch, more_branch, AreFields, no_fields, more_fields, IsDecl, struct_decl, fun_decl, AreDecls, no_decls, more_decls, Spells}
 use Rattle.hv_tree.specs.Core.{CoreExpr, CoreStmt, CoreArgs, core_of, core_call, core_block, core_stmt, core_steps, core_arg, core_args, core_exprs, core_links, core_stmts, core_option_block, core_branches, core_ty, core_option_ty, core_param, core_field, core_decl, core_tree}
 use Rattle.hv_tree.proofs.CoreLemmas as lemmas
-use Rattle.hv_places.proofs.CoreParts.{core_int, core_truth, core_path_expr, core_calls, core_awaits, core_array, core_filled, core_count, core_lambda, core_prefix, core_chain, core_called, core_ref, core_body, core_test, core_var, core_var_with, core_let, core_inout, core_assign, core_if, core_while, core_return, core_return_with, core_print, core_task, core_awaits_alone, core_calls_alone, core_bare}
+use Rattle.hv_tree.proofs.CoreParts.{core_int, core_truth, core_path_expr, core_calls, core_awaits, core_array, core_filled, core_count, core_lambda, core_prefix, core_chain, core_called, core_ref, core_body, core_test, core_var, core_var_with, core_let, core_inout, core_assign, core_if, core_while, core_return, core_return_with, core_print, core_task, core_awaits_alone, core_calls_alone, core_bare}
 use Rattle.hv_places.specs.Places.{in_ty, in_result, in_names, in_params, in_expr, in_exprs, in_links, in_steps, in_call, in_args, in_block, in_stmts, in_branches, in_stmt, in_fields, in_decl, in_decls, IsIn}
 use Rattle.hv_lemmas.proofs.Each.{Each, each_split, each_join, each_at, each_weaker, each_contained}
 use Rattle.hv_places.specs.TokenPlaces.{IsAmong}

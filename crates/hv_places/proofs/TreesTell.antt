@@ -3,10 +3,10 @@ use Rattle.std.proofs.Common.{ℕ, zero, suc, pos, List, [], ◌∷◌, ◌++◌
 use Rattle.std.specs.List.{slice_get}
 use Rattle.hv_tree.specs.declared.place.Place.{Place}
 use Rattle.hv_tree.specs.Core.{Core, CoreParam, CoreExpr, Number, Truth, Path, Calls, Awaits, Array, Filled, Count, Lambda, Prefix, Chain, CoreExprs, NoExprs, ExprOf, CoreLinks, NoLinks, LinkOf, CoreSteps, NoSteps, FieldStep, IndexStep, CoreCall, CallOf, CoreArgs, NoArgs, ValueArg, RefArg, CoreBlock, BlockOf, CoreStmts, NoStmts, StmtOf, CoreBranches, NoElse, Else, BranchOf, CoreStmt, Var, VarWith, Let, Inout, Assign, If, While, Return, ReturnWith, Print, Task, AwaitsAlone, CallsAlone, Bare}
-use Rattle.hv_rules.specs.Types.{ValueType}
-use Rattle.hv_rules.specs.Locals.{Local, CoreBody, locals_of, number_in}
-use Rattle.hv_rules.specs.Sites.{bodies_of}
-use Rattle.hv_rules.specs.Events.{field_at, element_at}
+use Rattle.hv_decls.specs.Types.{ValueType}
+use Rattle.hv_decls.specs.Locals.{Local, CoreBody, locals_of, number_in}
+use Rattle.hv_decls.specs.Sites.{bodies_of}
+use Rattle.hv_decls.specs.Statics.{field_at, element_at}
 use Rattle.hv_value.specs.ValueTree.{ValueTree, Fields, Elements, Closure, Nil, row}
 use Rattle.hv_value.specs.ValueTree as v
 use Rattle.hv_value.specs.Texts.{text}
@@ -14,7 +14,7 @@ use Rattle.hv_value.specs.Walk.{Link, ToField, ToIndex}
 use Rattle.hv_copying.specs.declared.end.Cause.TheVariants.{Kinds}
 use Rattle.hv_copying.specs.Run.{Run, Flow}
 use Rattle.hv_copying.specs.Ops.{Writes, Passed, Ops}
-use Rattle.hv_copying.specs.Operations.{binary, unary, decides}
+use Rattle.hv_value.specs.Operators.{binary, unary, decides}
 use Rattle.hv_copying.specs.Places.{holes, body_number, type_of}
 use Rattle.hv_copying.specs.Calls.{Deeper, passed_captures}
 use Rattle.hv_copying.specs.Blocks.{first_token}

@@ -7,12 +7,12 @@ use Rattle.hv_tree.specs.declared.types.Conv.{Conv}
 use Rattle.hv_tree.specs.declared.refusal.Rule.{Rule}
 use Rattle.hv_tree.specs.declared.refusal.Rule.TheVariants as rule
 use Rattle.hv_tree.specs.Core.{Core, StructOf, CoreTy, CoreExpr, Number, Truth, Path, Calls, Awaits, Array, Filled, Count, Lambda, Prefix, Chain, CoreExprs, NoExprs, ExprOf, CoreLinks, NoLinks, LinkOf, CoreSteps, NoSteps, FieldStep, IndexStep, CoreCall, CallOf, CoreArgs, NoArgs, ValueArg, RefArg, CoreStmt, Var, VarWith, Let, Inout, Assign, If, While, Return, ReturnWith, Print, Task, AwaitsAlone, CallsAlone, Bare}
-use Rattle.hv_rules.specs.Types.{ValueType}
-use Rattle.hv_rules.specs.Locals.{value_of}
-use Rattle.hv_rules.specs.Sites.{Part, ExprPart, CallPart, PlacePart, StmtPart, TestPart, Scope}
-use Rattle.hv_rules.specs.Events.{field_at, element_at, type_at}
-use Rattle.hv_rules.specs.Typing.{Known, Wanted, Signature, NoSignature, Signed, signature_of, first_type}
-use Rattle.hv_rules.specs.TypeRules.{expr_place, Wrong, local_named, StepMisfits, ElementMisfits, OperandMisfits, ChainMisfits, ArgMisfits, CallMisfits, TaskMisfits, ReturnMisfits, ExprT1, StmtT1, CallT1, T1, CallT2, T2, StepsT3, T3, MarkDiffers, CallT5, CallMarks, T5, ReadT6, CalleeT6, LentT6, CaptureT6, ExprT6, StmtT6, CallT6, T6, MoveT7, ValueT7, ArgT7, wanted_by, CallT7, StmtT7, T7, CallT8, T8, LinkT9, CaptureT9, ExprT9, StmtT9, T9, ViolatesType}
+use Rattle.hv_decls.specs.Types.{ValueType}
+use Rattle.hv_decls.specs.Locals.{value_of}
+use Rattle.hv_decls.specs.Sites.{Part, ExprPart, CallPart, PlacePart, StmtPart, TestPart, Scope}
+use Rattle.hv_decls.specs.Statics.{field_at, element_at, type_at}
+use Rattle.hv_type_rules.specs.Typing.{Known, Wanted, Signature, NoSignature, Signed, signature_of, first_type}
+use Rattle.hv_type_rules.specs.TypeRules.{expr_place, Wrong, local_named, StepMisfits, ElementMisfits, OperandMisfits, ChainMisfits, ArgMisfits, CallMisfits, TaskMisfits, ReturnMisfits, ExprT1, StmtT1, CallT1, T1, CallT2, T2, StepsT3, T3, MarkDiffers, CallT5, CallMarks, T5, ReadT6, CalleeT6, LentT6, CaptureT6, ExprT6, StmtT6, CallT6, T6, MoveT7, ValueT7, ArgT7, wanted_by, CallT7, StmtT7, T7, CallT8, T8, LinkT9, CaptureT9, ExprT9, StmtT9, T9, ViolatesType}
 use Rattle.hv_places.specs.Places.{in_ty, in_result, in_names, in_params, in_expr, in_exprs, in_links, in_steps, in_call, in_args, in_block, in_stmt}
 use Rattle.hv_lemmas.proofs.Each.{Each, each_split}
 use Rattle.hv_places.proofs.SitesTell.{PartTells}

@@ -1,10 +1,9 @@
 -- Where bodies end.
 use Rattle.std.specs.Prelude.{◌≡◌, ℕ, Some}
 use Rattle.std.specs.List.{slice_get}
-use Rattle.hv_tree.specs.Core.{Core}
-use Rattle.hv_rules.specs.Locals.{CoreBody}
-use Rattle.hv_rules.specs.Sites.{bodies_of}
-use Rattle.hv_rules.specs.Events.{end_of}
+use Rattle.hv_tree.specs.Core.{Core, end_of}
+use Rattle.hv_decls.specs.Locals.{CoreBody}
+use Rattle.hv_decls.specs.Sites.{bodies_of}
 
 -- the byte at which the `}` of a body stands
 abbrev pub end_start : CoreBody → ℕ

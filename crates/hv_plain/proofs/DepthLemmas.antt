@@ -2,8 +2,8 @@
 use Rattle.std.proofs.Common.{◌≡◌, ◌≢◌, ◌-◌, ◌<◌, ℕ, zero, suc, List, length, Option, Some, None, Result, Ok, Err, refl, sym, ap, ◌∙◌, arith}
 use Rattle.std.specs.List.{slice_get}
 use Rattle.hv_tree.specs.Core.{Core}
-use Rattle.hv_rules.specs.Locals.{Local, CoreBody, locals_of}
-use Rattle.hv_rules.specs.Sites.{bodies_of}
+use Rattle.hv_decls.specs.Locals.{Local, CoreBody, locals_of}
+use Rattle.hv_decls.specs.Sites.{bodies_of}
 use Rattle.hv_copying.specs.declared.end.Cause.TheVariants.{Kinds, Tasks}
 use Rattle.hv_copying.specs.Run.{Res, Is, Now, Flow, after, ◌>>=◌, and_then, halt, counted_from}
 use Rattle.hv_copying.specs.Calls.{Deeper, ended}

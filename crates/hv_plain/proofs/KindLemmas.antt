@@ -12,7 +12,7 @@ use Rattle.hv_tree.specs.declared.ast.ExprKind.TheVariants as expr
 use Rattle.hv_tree.specs.declared.ast.PlaceExpr.{PlaceExpr, out-PlaceExpr}
 use Rattle.hv_tree.specs.Core.{Path, Count, CoreSteps, core_steps, core_block, core_call}
 use Rattle.hv_tree.proofs.CoreLemmas as lemmas
-use Rattle.hv_rules.specs.Locals.{number_in}
+use Rattle.hv_decls.specs.Locals.{number_in}
 use Rattle.hv_value.specs.ValueTree.{ValueTree, Number, Truth}
 use Rattle.hv_copying.specs.Run.{pure}
 use Rattle.hv_flat.specs.Accesses.{Plain}

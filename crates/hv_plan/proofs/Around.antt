@@ -3,7 +3,7 @@ use Rattle.std.proofs.Common.{◌≡◌, ◌+◌, List, [], ◌∷◌, ◌++◌,
 use Rattle.hv_tree.specs.Core.{Core, CoreBlock, BlockOf, CoreStmts, NoStmts, StmtOf, CoreBranches, NoElse, Else, BranchOf, CoreStmt, Var, VarWith, Let, Inout, Assign, If, While, Return, ReturnWith, Print, Task, AwaitsAlone, CallsAlone, Bare}
 use Rattle.hv_rules.specs.declared.event.FlowEvent.TheVariants as event
 use Rattle.hv_rules.specs.Flow.{Do, Then}
-use Rattle.hv_rules.specs.Locals.{Local, declared_in, in_block}
+use Rattle.hv_decls.specs.Locals.{Local, declared_in, in_block}
 use Rattle.hv_rules.specs.Events as events
 use Rattle.hv_plan.specs.declared.plan.FlowOp.TheVariants as op
 use Rattle.hv_plan.specs.Spelling.{plan_of}

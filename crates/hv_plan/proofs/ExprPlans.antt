@@ -23,7 +23,7 @@ use Rattle.hv_tree.specs.declared.ast.Arg.TheOpen.{Arg-F, ExprKind-F, Step-F}
 use Rattle.hv_tree.specs.Core.{Core, CoreExpr, Path, CoreSteps, NoSteps, CoreArgs, NoArgs, CoreCall, CallOf, core_of, core_kind, core_step, core_steps, core_place, core_arg, core_args, core_links}
 use Rattle.hv_tree.proofs.CoreLemmas as lemmas
 use Rattle.hv_rules.specs.declared.event.FlowEvent.TheVariants as event
-use Rattle.hv_rules.specs.Locals.{Local, number_in, local_in}
+use Rattle.hv_decls.specs.Locals.{Local, number_in, local_in}
 use Rattle.hv_rules.specs.Flow.{Skip, Then, Either}
 use Rattle.hv_rules.specs.Events as events
 use Rattle.hv_plan.specs.declared.plan.FlowOp.{FlowOp}

@@ -14,8 +14,8 @@ use Rattle.hv_tree.specs.Core.{Core, CoreExpr, Number, Truth, Path, Calls, Await
 use Rattle.hv_tree.proofs.CoreLemmas as lemmas
 use Rattle.hv_rules.specs.declared.event.FlowEvent.{FlowEvent}
 use Rattle.hv_rules.specs.declared.event.FlowEvent.TheVariants as event
-use Rattle.hv_rules.specs.declared.path.StaticPath.{StaticPath}
-use Rattle.hv_rules.specs.Locals.{Local, number_in, declared_in}
+use Rattle.hv_decls.specs.declared.path.StaticPath.{StaticPath}
+use Rattle.hv_decls.specs.Locals.{Local, number_in, declared_in}
 use Rattle.hv_rules.specs.Events as events
 use Rattle.hv_plan.specs.declared.plan.FlowOp.{FlowOp}
 use Rattle.hv_plan.specs.declared.plan.FlowOp.TheVariants as op

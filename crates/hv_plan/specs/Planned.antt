@@ -1,8 +1,8 @@
 -- The plans of all bodies of a program.
 use Rattle.std.specs.Prelude.{List, map}
 use Rattle.hv_tree.specs.Core.{Core}
-use Rattle.hv_rules.specs.Locals.{CoreBody}
-use Rattle.hv_rules.specs.Sites.{bodies_of}
+use Rattle.hv_decls.specs.Locals.{CoreBody}
+use Rattle.hv_decls.specs.Sites.{bodies_of}
 use Rattle.hv_scope.specs.Bodies.{body_by}
 use Rattle.hv_plan.specs.declared.plan.FlowOp.{FlowOp}
 use Rattle.hv_plan.specs.declared.body.Planned.{Planned}

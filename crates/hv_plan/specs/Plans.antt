@@ -10,10 +10,10 @@ use Rattle.hv_tree.specs.declared.ast.Expr.{Expr}
 use Rattle.hv_tree.specs.declared.ast.PlaceExpr.{PlaceExpr, out-PlaceExpr}
 use Rattle.hv_tree.specs.declared.ast.Step.{Step}
 use Rattle.hv_tree.specs.Core.{Core, CoreSteps, NoSteps, FieldStep, IndexStep, CoreArgs, NoArgs, ValueArg, RefArg, core_of, core_exprs, core_links, core_step, core_steps, core_call, core_arg, core_args}
-use Rattle.hv_rules.specs.declared.path.StaticPath.{StaticPath}
+use Rattle.hv_decls.specs.declared.path.StaticPath.{StaticPath}
 use Rattle.hv_rules.specs.declared.event.FlowEvent.{FlowEvent}
 use Rattle.hv_rules.specs.declared.event.FlowEvent.TheVariants as event
-use Rattle.hv_rules.specs.Locals.{Local, number_in}
+use Rattle.hv_decls.specs.Locals.{Local, number_in}
 use Rattle.hv_rules.specs.Events as events
 use Rattle.hv_plan.specs.declared.plan.FlowOp.{FlowOp}
 use Rattle.hv_plan.specs.declared.plan.FlowOp.TheVariants as op

@@ -4,8 +4,8 @@ use Rattle.hv_tree.specs.declared.types.Ty.{Ty}
 use Rattle.hv_tree.specs.declared.types.Conv.{Conv}
 use Rattle.hv_tree.specs.Core.{Core, CoreTy, core_ty, core_tys_of, core_param, core_tree}
 use Rattle.hv_rules.specs.Events as events
-use Rattle.hv_rules.specs.Types.{params_meant, convs_of}
-use Rattle.hv_rules.specs.Locals.{Local}
+use Rattle.hv_decls.specs.Types.{params_meant, convs_of}
+use Rattle.hv_decls.specs.Locals.{Local}
 use Rattle.hv_scope.specs.Known.{local_by}
 use Rattle.hv_plan.specs.declared.scope.Scope.{Scope}
 use Rattle.hv_plan.specs.declared.paths.Callee.{Callee}

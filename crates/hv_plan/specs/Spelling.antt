@@ -1,11 +1,11 @@
 -- A flow as it is written down: each event with its place.
 use Rattle.std.specs.Prelude.{List, [], ◌∷◌, ◌++◌}
 use Rattle.hv_tree.specs.declared.place.Place.{Place}
-use Rattle.hv_tree.specs.Core.{Core}
+use Rattle.hv_tree.specs.Core.{Core, end_of}
 use Rattle.hv_rules.specs.declared.event.FlowEvent.TheVariants as event
 use Rattle.hv_rules.specs.Flow.{Skip, Do, Stop, Then, Either, Loop}
-use Rattle.hv_rules.specs.Locals.{CoreBody}
-use Rattle.hv_rules.specs.Events.{Events, mark, end_of, body_events}
+use Rattle.hv_decls.specs.Locals.{CoreBody}
+use Rattle.hv_rules.specs.Events.{Events, mark, body_events}
 use Rattle.hv_plan.specs.declared.plan.FlowOp.{FlowOp}
 use Rattle.hv_plan.specs.declared.plan.FlowOp.TheVariants as op
 

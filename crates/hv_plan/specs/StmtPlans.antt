@@ -10,7 +10,7 @@ use Rattle.hv_tree.specs.declared.ast.PlaceExpr.{PlaceExpr}
 use Rattle.hv_tree.specs.declared.ast.Stmt.{Stmt}
 use Rattle.hv_tree.specs.Core.{Core, core_stmt, core_stmts, core_block, core_branches}
 use Rattle.hv_rules.specs.declared.event.FlowEvent.TheVariants as event
-use Rattle.hv_rules.specs.Locals.{Local, declared_in, in_block, in_branches, in_stmts}
+use Rattle.hv_decls.specs.Locals.{Local, declared_in, in_block, in_branches, in_stmts}
 use Rattle.hv_rules.specs.Events as events
 use Rattle.hv_plan.specs.declared.plan.FlowOp.{FlowOp}
 use Rattle.hv_plan.specs.declared.plan.FlowOp.TheVariants as op

@@ -1,9 +1,9 @@
 // The plan of a body, and the plans of all bodies of a program.
 ghost use Rattle.std.specs.Prelude.{◌≡◌, ◌++◌, ◌+◌, map, length, IfOk, OnOk};
 ghost use Rattle.hv_tree.specs.Core.{core_tree};
-ghost use Rattle.hv_rules.specs.Locals.{entry_locals};
+ghost use Rattle.hv_decls.specs.Locals.{entry_locals};
 ghost use Rattle.hv_rules.specs.Events as events;
-ghost use Rattle.hv_rules.specs.Sites as sites;
+ghost use Rattle.hv_decls.specs.Sites as sites;
 ghost use Rattle.hv_scope.specs.Bodies.{body_by};
 ghost use Rattle.hv_scope.specs.Known.{local_by, kind_of};
 ghost use Rattle.hv_plan.specs.Spelling.{plan_of, plan_of_body};

@@ -3,7 +3,8 @@ ghost use Rattle.std.specs.Prelude.{◌≡◌};
 ghost use Rattle.hv_rules.specs.Events as events;
 ghost use Rattle.hv_plan.specs.Plans.{done_by, doing_by, way_by};
 
-use hv_rules::{FlowEvent, StaticPath};
+use hv_decls::StaticPath;
+use hv_rules::FlowEvent;
 use hv_tree::{Conv, Operator};
 
 /// What is done with a place.

@@ -2,7 +2,7 @@
 ghost use Rattle.std.specs.Prelude.{◌≡◌, ◌++◌, ◌∷◌, [], IfOk, OnOk};
 ghost use Rattle.hv_tree.specs.Core.{core_of};
 ghost use Rattle.hv_rules.specs.declared.event.FlowEvent.TheVariants as event;
-ghost use Rattle.hv_rules.specs.Locals.{number_in};
+ghost use Rattle.hv_decls.specs.Locals.{number_in};
 ghost use Rattle.hv_rules.specs.Events as events;
 ghost use Rattle.hv_plan.specs.declared.plan.FlowOp.TheVariants as op;
 ghost use Rattle.hv_plan.specs.declared.doing.Doing.TheVariants as doing;
@@ -14,7 +14,8 @@ use crate::paths::{Callee, called_place, next_conv, static_steps};
 use crate::plan::FlowOp;
 use crate::scope::{Scope, find};
 use hv_items::Items;
-use hv_rules::{FlowEvent, StaticPath};
+use hv_decls::StaticPath;
+use hv_rules::FlowEvent;
 use hv_scope::value_type;
 use hv_tree::{Arg, Call, Conv, Expr, ExprKind, Name, Operator, Place, PlaceExpr, Step};
 use std::alloc::{AllocError as NoMemory, Global};

@@ -3,15 +3,16 @@ ghost use Rattle.std.specs.Prelude.{◌≡◌, ◌∷◌, [], IfOk};
 ghost use Rattle.std.specs.Option.{option_copied};
 ghost use Rattle.hv_tree.specs.Core.{core_of, core_step, core_steps, NoSteps, core_tree};
 ghost use Rattle.hv_tree.specs.declared.ast.PlaceExpr.{out-PlaceExpr};
-ghost use Rattle.hv_rules.specs.Types.{fun_in};
-ghost use Rattle.hv_rules.specs.Locals.{local_in};
+ghost use Rattle.hv_decls.specs.Types.{fun_in};
+ghost use Rattle.hv_decls.specs.Locals.{local_in};
 ghost use Rattle.hv_rules.specs.Events as events;
+ghost use Rattle.hv_decls.specs.Statics as statics;
 ghost use Rattle.hv_scope.specs.Known.{typed};
 ghost use Rattle.hv_plan.specs.Scopes.{callee_by, tree_in, locals_in};
 
 use crate::scope::{Scope, find};
 use hv_items::Items;
-use hv_rules::StaticStep;
+use hv_decls::StaticStep;
 use hv_scope::{Declared, behind, field_at, type_behind};
 use hv_tree::{Conv, Expr, ExprKind, Name, Param, PlaceExpr, Step, Ty};
 use std::alloc::{AllocError as NoMemory, Global};
@@ -27,7 +28,7 @@ pub enum Callee<'t> {
 
 #[tactic(auto, using(crate::proofs::TypeLemmas::index_opened, crate::proofs::TypeLemmas::index_int), unfolding(crate::proofs::TypeLemmas::index_by))]
 fn index_step(index: &Expr) -> StaticStep
-    ensures { result ≡ events.index_step (core_of index.now) }
+    ensures { result ≡ statics.index_step (core_of index.now) }
 {
     match &index.kind {
         ExprKind::Int(value) => StaticStep::Literal(*value),
@@ -42,7 +43,7 @@ fn static_step<'t>(
     ty: Option<&'t Ty>,
     step: &Step,
 ) -> Result<StaticStep, NoMemory>
-    ensures { IfOk result (λ s. events.static_steps (core_tree declared.now) (typed (option_copied ty.entry)) (core_step step.now NoSteps) ≡ s ∷ []) }
+    ensures { IfOk result (λ s. statics.static_steps (core_tree declared.now) (typed (option_copied ty.entry)) (core_step step.now NoSteps) ≡ s ∷ []) }
 {
     match step {
         Step::Field(name) => match field_at(declared, ty, name) {
@@ -63,7 +64,7 @@ pub fn static_steps<'t>(
     ty: Option<&'t Ty>,
     steps: &[Step],
 ) -> Result<Items<StaticStep>, NoMemory>
-    ensures { IfOk result (λ v. v ≡ events.static_steps (core_tree declared.now) (typed (option_copied ty.entry)) (core_steps steps.now)) }
+    ensures { IfOk result (λ v. v ≡ statics.static_steps (core_tree declared.now) (typed (option_copied ty.entry)) (core_steps steps.now)) }
 {
     let mut known = ty;
     let mut path = Items::new(alloc);

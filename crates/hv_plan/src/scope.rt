@@ -1,6 +1,6 @@
 // A program, and the locals of a body in it.
 ghost use Rattle.std.specs.Prelude.{◌≡◌};
-ghost use Rattle.hv_rules.specs.Locals.{number_in, local_in};
+ghost use Rattle.hv_decls.specs.Locals.{number_in, local_in};
 ghost use Rattle.hv_scope.specs.Known.{found_number, found_local};
 ghost use Rattle.hv_plan.specs.Scopes.{locals_in};
 

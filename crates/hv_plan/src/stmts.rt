@@ -10,7 +10,8 @@ use crate::exprs::{push_await, push_call, push_expr, push_place};
 use crate::plan::FlowOp;
 use crate::scope::Scope;
 use hv_items::Items;
-use hv_rules::{FlowEvent, StaticPath};
+use hv_decls::StaticPath;
+use hv_rules::FlowEvent;
 use hv_tree::{Block, Branch, Call, Expr, Name, Place, PlaceExpr, Stmt, StmtKind};
 use std::alloc::{AllocError as NoMemory, Global};
 

@@ -2,7 +2,6 @@ pub mod Parts
 pub mod PieceBytes
 pub mod Placeless
 -- what a tree that is spelled is
-pub mod CoreParts
 pub mod Proper
 pub mod ProperTypes
 pub mod ProperTrees

@@ -18,7 +18,7 @@ use Rattle.hv_tree.specs.Grammar.{place_of, IsTaskType, no_task_type, one_task_t
 use Rattle.hv_tree.specs.Core.{CoreArgs, CoreBranches, core_of, core_call, core_block, core_stmt, core_steps, core_arg, core_args, core_exprs, core_links, core_stmts, core_option_block, core_branches, core_option_ty, core_field, core_decl, core_tree}
 use Rattle.hv_tree.proofs.CoreLemmas as lemmas
 use Rattle.hv_print.specs.Spellings.{AreSpelled}
-use Rattle.hv_print.proofs.CoreParts.{core_int, core_truth, core_path_expr, core_calls, core_awaits, core_array, core_filled, core_count, core_lambda, core_prefix, core_chain, core_called, core_ref, core_body, core_test, core_var, core_var_with, core_let, core_inout, core_assign, core_if, core_while, core_return, core_return_with, core_print, core_task, core_awaits_alone, core_calls_alone, core_bare}
+use Rattle.hv_tree.proofs.CoreParts.{core_int, core_truth, core_path_expr, core_calls, core_awaits, core_array, core_filled, core_count, core_lambda, core_prefix, core_chain, core_called, core_ref, core_body, core_test, core_var, core_var_with, core_let, core_inout, core_assign, core_if, core_while, core_return, core_return_with, core_print, core_task, core_awaits_alone, core_calls_alone, core_bare}
 use Rattle.hv_print.proofs.Proper.{ProperResult, HasLink, HasElement, HasTest, MayGoOn, ProperExpr, ProperExprs, ProperLinks, ProperSteps, ProperCall, ProperArgs, ProperBlock, ProperStmts, ProperBranches, ProperStmt, ProperFields, ProperDecl, ProperDecls}
 use Rattle.hv_print.proofs.ProperTypes.{spelled_parts, of_type, of_return, of_params, of_names}
 

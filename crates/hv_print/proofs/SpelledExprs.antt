@@ -12,7 +12,7 @@ use Rattle.hv_tree.specs.Core.{CoreExpr, Number, Truth, Path, Calls, Awaits, Arr
 use Rattle.hv_tree.proofs.CoreLemmas as lemmas
 use Rattle.hv_print.specs.Aside.{nowhere, name_aside, ty_aside, result_aside, param_aside, expr_aside, exprs_aside, steps_aside, call_aside, args_aside, block_aside, stmt_aside}
 use Rattle.hv_print.specs.Pieces.{Piece, WordOf, MarkOf, piece_bytes, here, placed, tokens_of, indent_pieces, comma, names_pieces, typed_pieces, ty_pieces, params_pieces, return_pieces, handle_pieces, operator_piece, expr_pieces, exprs_pieces, steps_pieces, call_pieces, args_pieces, block_pieces, stmt_pieces}
-use Rattle.hv_print.proofs.CoreParts.{core_int, core_truth, core_path_expr, core_calls, core_awaits, core_array, core_filled, core_count, core_lambda, core_called, core_var, core_var_with, core_let, core_inout, core_assign, core_if, core_while, core_return_with, core_print, core_task, core_awaits_alone, core_calls_alone, core_bare}
+use Rattle.hv_tree.proofs.CoreParts.{core_int, core_truth, core_path_expr, core_calls, core_awaits, core_array, core_filled, core_count, core_lambda, core_called, core_var, core_var_with, core_let, core_inout, core_assign, core_if, core_while, core_return_with, core_print, core_task, core_awaits_alone, core_calls_alone, core_bare}
 use Rattle.hv_print.proofs.Proper.{IsOf, MayGoOn, ProperExpr, ProperExprs, ProperLinks, ProperSteps, ProperCall, ProperArgs, ProperBlock, ProperStmts, ProperBranches, ProperStmt}
 use Rattle.hv_print.proofs.SpelledTypes.{Reads, behind, split, of_ty}
 use Rattle.hv_print.proofs.SpelledParts.{of_names, of_params, of_return, of_handle, seen_params, seen_result}

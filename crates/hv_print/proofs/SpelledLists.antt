@@ -12,7 +12,7 @@ use Rattle.hv_tree.specs.Core.{CoreExpr, CoreExprs, NoExprs, ExprOf, CoreArgs, N
 use Rattle.hv_tree.proofs.CoreLemmas as lemmas
 use Rattle.hv_print.specs.Aside.{nowhere, name_aside, exprs_aside, args_aside, steps_aside}
 use Rattle.hv_print.specs.Pieces.{Piece, here, tokens_of}
-use Rattle.hv_print.proofs.CoreParts.{core_ref}
+use Rattle.hv_tree.proofs.CoreParts.{core_ref}
 use Rattle.hv_print.proofs.SpelledTypes.{Reads, behind, split}
 use Rattle.hv_print.proofs.Levels.{seen_expr}
 

@@ -15,7 +15,7 @@ use Rattle.hv_tree.specs.Grammar.{expr_at, stmt_at, place_of, no_semicolon, chai
 use Rattle.hv_tree.specs.Core.{CoreExpr, Prefix, Chain, CoreLinks, NoLinks, LinkOf, CoreCall, CoreBlock, BlockOf, CoreStmts, StmtOf, CoreBranches, NoElse, Else, BranchOf, CoreStmt, Return, core_call, core_block, core_stmt, core_links, core_stmts, core_branches}
 use Rattle.hv_print.specs.Aside.{nowhere, expr_aside, links_aside, call_aside, block_aside, stmts_aside, branches_aside, stmt_aside}
 use Rattle.hv_print.specs.Pieces.{Piece, Space, LineFeed, KeywordOf, MarkOf, piece_bytes, here, tokens_of, indent_pieces, operator_piece, operand_pieces, expr_pieces, links_pieces, block_pieces, bare_pieces, stmts_pieces, branches_pieces, stmt_pieces}
-use Rattle.hv_print.proofs.CoreParts.{core_prefix, core_chain, core_body, core_test, core_return}
+use Rattle.hv_tree.proofs.CoreParts.{core_prefix, core_chain, core_body, core_test, core_return}
 use Rattle.hv_print.proofs.Proper.{IsOf, IsPrefix}
 use Rattle.hv_print.proofs.SpelledTypes.{Reads, behind, split}
 use Rattle.hv_print.proofs.Levels.{AtLeast, level_tightness, operand_at, chain_at, no_tighter, sign_at, infix_at, sign_first, seen_expr, ExprReads, any_expr, of_operand}

@@ -23,7 +23,7 @@ use Rattle.hv_token.specs.Characters.{is_keyword}
 use Rattle.hv_token.specs.Pieces.{is_word}
 use Rattle.hv_print.specs.Spellings.{IsWordText, IsNumeral, AreSpelled}
 use Rattle.hv_print.specs.ReadBack.{IsWritten, IsShort, ReadsAs}
-use Rattle.hv_print.proofs.CoreParts.{core_int, core_chain, core_print, core_body}
+use Rattle.hv_tree.proofs.CoreParts.{core_int, core_chain, core_print, core_body}
 use Rattle.hv_print.proofs.PieceReads.{ascii_from, from_ascii_word}
 use Rattle.hv_print.proofs.ReadsBack.{reads_back}
 

@@ -15,10 +15,10 @@ use Rattle.hv_tree.specs.Grammar as grammar
 use Rattle.hv_tree.specs.Core.{Core, CoreDecl, FunOf, StructOf, CoreFun, CoreBlock, BlockOf, NoStmts, core_tree, core_block}
 use Rattle.hv_tree.proofs.CoreLemmas.{opened_block}
 use Rattle.hv_rules.specs.declared.event.FlowEvent.TheVariants as event
-use Rattle.hv_rules.specs.Locals.{Local, CoreBody, fun_body, locals_of}
-use Rattle.hv_rules.specs.Sites.{decl_bodies}
-use Rattle.hv_rules.specs.Names.{Repeats, local_name, types_of_decl, names_in_all, SharesName, ViolatesN1, top_level, of_fields, in_body, shared, ViolatesN2, in_decl, in_type, as_used, as_captured, IsViolatedByNames}
-use Rattle.hv_rules.specs.TypeRules.{IsViolatedByTypes, at_part, at_struct}
+use Rattle.hv_decls.specs.Locals.{Local, CoreBody, fun_body, locals_of}
+use Rattle.hv_decls.specs.Sites.{decl_bodies}
+use Rattle.hv_type_rules.specs.Names.{Repeats, local_name, types_of_decl, names_in_all, SharesName, ViolatesN1, top_level, of_fields, in_body, shared, ViolatesN2, in_decl, in_type, as_used, as_captured, IsViolatedByNames}
+use Rattle.hv_type_rules.specs.TypeRules.{IsViolatedByTypes, at_part, at_struct}
 use Rattle.hv_rules.specs.Events.{Mark, ToEnd, body_events}
 use Rattle.hv_rules.specs.States.{state_after}
 use Rattle.hv_rules.specs.Rules.{Violates, IsViolatedIn, IsViolatedByEvents, at_task}

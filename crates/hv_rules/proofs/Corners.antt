@@ -5,16 +5,16 @@ use Rattle.hv_tree.specs.declared.refusal.Rule.TheVariants as rule
 use Rattle.hv_tree.specs.declared.ast.Operator.TheVariants as operator
 use Rattle.hv_tree.specs.Core.{Core, StructOf, CoreFun, CoreStruct, BoolTy, NamedTy, ArrayTy, VarWith, Inout, If, Return, ReturnWith, Task, CoreExpr, Truth, Path, Calls, Awaits, Count, Chain, NoLinks, LinkOf, Lambda, NoSteps, CallOf, NoArgs, ValueArg, RefArg, BlockOf, NoStmts, StmtOf, NoElse, BranchOf, While}
 use Rattle.hv_rules.specs.declared.event.FlowEvent.TheVariants as event
-use Rattle.hv_rules.specs.Locals.{local, VarBound, Handle, fun_body}
-use Rattle.hv_rules.specs.Sites.{Part, ExprPart, CallPart, StmtPart, Scope}
-use Rattle.hv_rules.specs.Typing.{Unknown, Nothing, type_of}
-use Rattle.hv_rules.specs.Names.{NoLocal}
-use Rattle.hv_rules.specs.TypeRules.{ViolatesType, TooGreat}
+use Rattle.hv_decls.specs.Locals.{local, VarBound, Handle, fun_body}
+use Rattle.hv_decls.specs.Sites.{Part, ExprPart, CallPart, StmtPart, Scope}
+use Rattle.hv_type_rules.specs.Typing.{Unknown, Nothing, type_of}
+use Rattle.hv_type_rules.specs.Names.{NoLocal}
+use Rattle.hv_type_rules.specs.TypeRules.{ViolatesType, TooGreat}
 use Rattle.hv_rules.specs.Events.{mark, declaring, whole, ToEnd, uses, body_events, Mark}
 use Rattle.hv_rules.specs.Rules.{IsViolatedIn}
 use Rattle.hv_rules.proofs.Runs.{run_front}
 use Rattle.hv_rules.proofs.Violations.{Clear, clear, empty}
-use Rattle.hv_rules.proofs.Programs.{o, at, name, name_at, fun, param, int, num, read, x, f, h, alone, two}
+use Rattle.hv_decls.proofs.Programs.{o, at, name, name_at, fun, param, int, num, read, x, f, h, alone, two}
 
 -- functions f with a result and g without
 abbrev g : List ℕ

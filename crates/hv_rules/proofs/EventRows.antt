@@ -3,14 +3,14 @@ use Rattle.std.proofs.Common.{◌≡◌, ℕ, pos, false, List, [], ◌∷◌, N
 use Rattle.hv_tree.specs.declared.types.Conv.TheVariants as conv
 use Rattle.hv_tree.specs.declared.ast.Operator.TheVariants as operator
 use Rattle.hv_tree.specs.Core.{Core, FunOf, StructOf, NamedTy, ArrayTy, FunTy, NoTys, CoreExpr, Path, Awaits, Array, ExprOf, NoExprs, Filled, Count, Lambda, Prefix, Chain, NoLinks, LinkOf, NoSteps, FieldStep, IndexStep, CallOf, NoArgs, ValueArg, RefArg, BlockOf, NoStmts, CoreStmt, Var, VarWith, Let, Inout, Assign, Task, CallsAlone}
-use Rattle.hv_rules.specs.declared.path.StaticStep.{StaticStep}
-use Rattle.hv_rules.specs.declared.path.StaticStep.TheVariants as static
-use Rattle.hv_rules.specs.declared.path.StaticPath.{StaticPath}
+use Rattle.hv_decls.specs.declared.path.StaticStep.{StaticStep}
+use Rattle.hv_decls.specs.declared.path.StaticStep.TheVariants as static
+use Rattle.hv_decls.specs.declared.path.StaticPath.{StaticPath}
 use Rattle.hv_rules.specs.declared.event.FlowEvent.TheVariants as event
-use Rattle.hv_rules.specs.Locals.{Local, VarBound, Handle, local, fun_body}
+use Rattle.hv_decls.specs.Locals.{Local, VarBound, Handle, local, fun_body}
 use Rattle.hv_rules.specs.Events.{Mark, mark, declaring, uses, moves, inits, reads, writes, sets, whole, Around, ToEnd, value_events, stmt_events, body_events}
 use Rattle.hv_rules.proofs.Listed.{whole_list}
-use Rattle.hv_rules.proofs.Programs.{o, at, name, fun, param, int, num, x, f, h}
+use Rattle.hv_decls.proofs.Programs.{o, at, name, fun, param, int, num, x, f, h}
 
 abbrev a : List ℕ
 a = codes "a"

@@ -4,7 +4,7 @@ use Rattle.hv_tree.specs.declared.refusal.Rule.{Rule}
 use Rattle.hv_tree.specs.declared.refusal.Rule.TheVariants as rule
 use Rattle.hv_tree.specs.Core.{Core}
 use Rattle.hv_rules.specs.declared.event.FlowEvent.TheVariants as event
-use Rattle.hv_rules.specs.Locals.{CoreBody}
+use Rattle.hv_decls.specs.Locals.{CoreBody}
 use Rattle.hv_rules.specs.Events.{Mark}
 use Rattle.hv_rules.specs.States.{State, after, after_all}
 use Rattle.hv_rules.specs.Rules.{asks_whole, asks_free, asks_unwritten, back_at, handles_at, missing_at, Violates}

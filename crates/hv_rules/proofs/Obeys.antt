@@ -6,13 +6,13 @@ use Rattle.hv_tree.specs.declared.types.Name.{Name}
 use Rattle.hv_tree.specs.declared.refusal.Rule.{Rule}
 use Rattle.hv_tree.specs.declared.refusal.Rule.TheVariants as rule
 use Rattle.hv_tree.specs.Core.{Core, CoreDecl, FunOf, StructOf, CoreFun, VarWith, Print, NoSteps}
-use Rattle.hv_rules.specs.declared.path.StaticPath.{StaticPath}
+use Rattle.hv_decls.specs.declared.path.StaticPath.{StaticPath}
 use Rattle.hv_rules.specs.declared.event.FlowEvent.TheVariants as event
-use Rattle.hv_rules.specs.Types.{ValueType, IntType}
-use Rattle.hv_rules.specs.Locals.{Local, CoreBody, fun_body, locals_of, local, VarBound}
-use Rattle.hv_rules.specs.Sites.{Site, Scope, ExprPart, PlacePart, StmtPart, sites_of, bodies_of, decl_bodies}
-use Rattle.hv_rules.specs.Names.{Named, Repeats, decl_name, local_name, types_of_decl, names_in_all, types_of, used_by, captured_by, NothingVisible, SharesName, ViolatesN1, top_level, of_fields, in_body, shared, ViolatesN2, in_decl, in_type, as_used, as_captured, IsViolatedByNames}
-use Rattle.hv_rules.specs.TypeRules.{HoldsFunction, is_fun, is_fun_to, in_element, in_field, ViolatesType, IsViolatedByTypes, at_part, at_struct}
+use Rattle.hv_decls.specs.Types.{ValueType, IntType}
+use Rattle.hv_decls.specs.Locals.{Local, CoreBody, fun_body, locals_of, local, VarBound}
+use Rattle.hv_decls.specs.Sites.{Site, Scope, ExprPart, PlacePart, StmtPart, sites_of, bodies_of, decl_bodies}
+use Rattle.hv_type_rules.specs.Names.{Named, Repeats, decl_name, local_name, types_of_decl, names_in_all, types_of, used_by, captured_by, NothingVisible, SharesName, ViolatesN1, top_level, of_fields, in_body, shared, ViolatesN2, in_decl, in_type, as_used, as_captured, IsViolatedByNames}
+use Rattle.hv_type_rules.specs.TypeRules.{HoldsFunction, is_fun, is_fun_to, in_element, in_field, ViolatesType, IsViolatedByTypes, at_part, at_struct}
 use Rattle.hv_rules.specs.Events.{Mark, mark, declaring, uses, whole, ToEnd, body_events}
 use Rattle.hv_rules.specs.States.{State, start, after}
 use Rattle.hv_rules.specs.Rules.{asks_whole, asks_unwritten, Violates, ViolatesS3, IsViolatedIn, IsViolatedByEvents, at_task}
@@ -21,7 +21,7 @@ use Rattle.hv_rules.specs.Accepted.{IsViolated}
 use Rattle.hv_rules.proofs.Listed.{whole_listed}
 use Rattle.hv_rules.proofs.Obeying.{AllOf, all_at, none_in, Clears, front_clears, quiet}
 use Rattle.hv_rules.proofs.Accepts.{one_repeats}
-use Rattle.hv_rules.proofs.Programs.{o, at, name, fun, int, num, read, x, alone}
+use Rattle.hv_decls.proofs.Programs.{o, at, name, fun, int, num, read, x, alone}
 
 abbrev main : CoreFun
 main = fun (codes "main") [] None (VarWith o (name x) int (num 1) ∷ (Print o (read x) ∷ [])) 38

@@ -1,11 +1,11 @@
 -- What a few lists of events leave.
 use Rattle.std.proofs.Common.{◌≡◌, ℕ, pos, true, false, List, [], ◌∷◌, Some, refl}
-use Rattle.hv_rules.specs.declared.path.StaticStep.TheVariants as static
-use Rattle.hv_rules.specs.declared.path.StaticPath.{StaticPath}
+use Rattle.hv_decls.specs.declared.path.StaticStep.TheVariants as static
+use Rattle.hv_decls.specs.declared.path.StaticPath.{StaticPath}
 use Rattle.hv_rules.specs.declared.event.FlowEvent.TheVariants as event
 use Rattle.hv_rules.specs.Events.{Mark, mark, declaring, moves, inits, reads, sets, whole}
 use Rattle.hv_rules.specs.States.{Leaf, Reading, Writing, NotSpawned, Spawned, Filled, Open, Handles}
-use Rattle.hv_rules.proofs.Programs.{o}
+use Rattle.hv_decls.proofs.Programs.{o}
 
 abbrev leaf : ℕ → List ℕ → Leaf
 leaf n fields = record { root = n; fields = fields }

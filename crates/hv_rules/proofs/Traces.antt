@@ -5,7 +5,7 @@ use Rattle.hv_tree.specs.declared.types.Name.{Name}
 use Rattle.hv_tree.specs.declared.ast.Operator.TheVariants as operator
 use Rattle.hv_tree.specs.Core.{Core, IntTy, CoreExpr, Path, Chain, NoLinks, LinkOf, NoSteps, CoreBlock, BlockOf, CoreStmts, NoStmts, StmtOf, NoElse, BranchOf, CoreStmt, If, While, Return, Print, Bare}
 use Rattle.hv_rules.specs.declared.event.FlowEvent.TheVariants as event
-use Rattle.hv_rules.specs.Locals.{VarBound, Local, local}
+use Rattle.hv_decls.specs.Locals.{VarBound, Local, local}
 use Rattle.hv_rules.specs.Flow.{IsWhole}
 use Rattle.hv_rules.specs.Events.{Mark, uses, whole, ToEnd, Around, value_events, stmt_events, stmts_events}
 use Rattle.hv_rules.proofs.Listed.{Among, whole_listed}

@@ -6,17 +6,17 @@ use Rattle.hv_tree.specs.declared.types.Conv.TheVariants as conv
 use Rattle.hv_tree.specs.declared.refusal.Rule.{Rule}
 use Rattle.hv_tree.specs.declared.refusal.Rule.TheVariants as rule
 use Rattle.hv_tree.specs.Core.{Core, CoreFun, CoreParam, CoreTy, ArrayTy, Path, CoreSteps, NoSteps, IndexStep, CallOf, CoreArgs, NoArgs, ValueArg, RefArg, CoreStmt, Var, VarWith, Assign, ReturnWith, Print, Task, AwaitsAlone, CallsAlone}
-use Rattle.hv_rules.specs.declared.path.StaticStep.TheVariants as static
-use Rattle.hv_rules.specs.declared.path.StaticPath.{StaticPath}
+use Rattle.hv_decls.specs.declared.path.StaticStep.TheVariants as static
+use Rattle.hv_decls.specs.declared.path.StaticPath.{StaticPath}
 use Rattle.hv_rules.specs.declared.event.FlowEvent.TheVariants as event
-use Rattle.hv_rules.specs.Paths.{Overlap}
-use Rattle.hv_rules.specs.Locals.{CoreBody, fun_body}
-use Rattle.hv_rules.specs.Sites.{StmtPart, body_scope}
+use Rattle.hv_decls.specs.Paths.{Overlap}
+use Rattle.hv_decls.specs.Locals.{CoreBody, fun_body}
+use Rattle.hv_decls.specs.Sites.{StmtPart, body_scope}
 use Rattle.hv_rules.specs.Events.{Mark, mark, uses, inits, reads, writes, declaring, whole, ToEnd, body_events}
 use Rattle.hv_rules.specs.States.{Access, fields_of, Spawned, Awaited, state_after, Writing, Reading}
 use Rattle.hv_rules.specs.Rules.{Trace, Violates, IsViolatedIn, asks_whole, asks_free, asks_unwritten, HasHole, Clashes, ClashesWithChange, ViolatesS3, IsViolatedByEvents, at_task}
 use Rattle.hv_rules.proofs.Runs.{run, run_front}
-use Rattle.hv_rules.proofs.Programs.{o, at, name, name_at, fun, param, int, num, read, x, f, h, alone, two}
+use Rattle.hv_decls.proofs.Programs.{o, at, name, name_at, fun, param, int, num, read, x, f, h, alone, two}
 
 -- ---- traces and refutations
 

@@ -8,9 +8,9 @@ use Rattle.hv_tree.specs.declared.ast.Tree.{Tree}
 use Rattle.hv_tree.specs.Tokens.{Tokens}
 use Rattle.hv_tree.specs.Grammar.{Spells}
 use Rattle.hv_tree.specs.Core.{Core, core_tree}
-use Rattle.hv_rules.specs.Earlier.{IsFirst}
-use Rattle.hv_rules.specs.Names.{IsViolatedByNames}
-use Rattle.hv_rules.specs.TypeRules.{IsViolatedByTypes}
+use Rattle.hv_tree.specs.Earlier.{IsFirst}
+use Rattle.hv_type_rules.specs.Names.{IsViolatedByNames}
+use Rattle.hv_type_rules.specs.TypeRules.{IsViolatedByTypes}
 use Rattle.hv_rules.specs.Rules.{IsViolatedByEvents}
 
 -- the rules in the order in which they are judged

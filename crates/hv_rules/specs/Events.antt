@@ -7,13 +7,13 @@ use Rattle.hv_tree.specs.declared.types.Conv.TheVariants as conv
 use Rattle.hv_tree.specs.declared.ast.Operator.{Operator}
 use Rattle.hv_tree.specs.declared.ast.Operator.TheVariants as operator
 use Rattle.hv_tree.specs.Core.{Core, CoreFun, CoreParam, CoreExpr, Number, Truth, Path, Calls, Awaits, Array, Filled, Count, Lambda, Prefix, Chain, CoreExprs, NoExprs, ExprOf, CoreLinks, NoLinks, LinkOf, CoreSteps, NoSteps, FieldStep, IndexStep, CoreCall, CallOf, CoreArgs, NoArgs, ValueArg, RefArg, CoreBlock, BlockOf, CoreStmts, NoStmts, StmtOf, CoreBranches, NoElse, Else, BranchOf, CoreStmt, Var, VarWith, Let, Inout, Assign, If, While, Return, ReturnWith, Print, Task, AwaitsAlone, CallsAlone, Bare}
-use Rattle.hv_rules.specs.declared.path.StaticStep.{StaticStep}
-use Rattle.hv_rules.specs.declared.path.StaticStep.TheVariants as static
-use Rattle.hv_rules.specs.declared.path.StaticPath.{StaticPath}
+use Rattle.hv_decls.specs.declared.path.StaticStep.{StaticStep}
+use Rattle.hv_decls.specs.declared.path.StaticStep.TheVariants as static
+use Rattle.hv_decls.specs.declared.path.StaticPath.{StaticPath}
 use Rattle.hv_rules.specs.declared.event.FlowEvent.{FlowEvent}
 use Rattle.hv_rules.specs.declared.event.FlowEvent.TheVariants as event
-use Rattle.hv_rules.specs.Types.{ValueType, IntType, BoolType, StructType, ArrayType, FunType, FunToType, convs_of, FieldAt, field_of, element_of, fun_in}
-use Rattle.hv_rules.specs.Locals.{LocalKind, Captured, Passed, VarBound, LetBound, InoutBound, Handle, Local, binds, declared_in, in_block, CoreBody, entry_locals, locals_of, number_in, local_in, value_of}
+use Rattle.hv_decls.specs.Types.{ValueType, IntType, BoolType, StructType, ArrayType, FunType, FunToType, convs_of, FieldAt, field_of, element_of, fun_in}
+use Rattle.hv_decls.specs.Locals.{LocalKind, Captured, Passed, VarBound, LetBound, InoutBound, Handle, Local, binds, declared_in, in_block, CoreBody, entry_locals, locals_of, number_in, local_in, value_of}
 use Rattle.hv_rules.specs.Flow.{Flow, Skip, Do, Stop, Then, Either, Loop}
 
 -- ---- events where they stand
@@ -72,54 +72,6 @@ whole n = record { root = n; steps = [] }
 -- Declare and Init of a local that has a value
 abbrev pub declared : ℕ → Name → Events
 declared n name = Then (Do (mark (event.Declare n) name.place)) (Do (declaring n (event.Init (whole n)) name.place))
-
--- ---- static paths
-
--- an index that is a number literal is a literal step, any other an Any step
-abbrev pub index_step : CoreExpr → StaticStep
-index_step (Number at z) = static.Literal z
-index_step (Truth at b) = static.Any
-index_step (Path at root steps) = static.Any
-index_step (Calls at call) = static.Any
-index_step (Awaits at name) = static.Any
-index_step (Array at xs) = static.Any
-index_step (Filled at len value) = static.Any
-index_step (Count at root steps) = static.Any
-index_step (Lambda at captures params result body) = static.Any
-index_step (Prefix at o x) = static.Any
-index_step (Chain at first links) = static.Any
-
--- the field of something of this type
-abbrev pub field_at : Core → Option ValueType → Name → Option FieldAt
-field_at tree None name = None
-field_at tree (Some t) name = field_of tree t name.text
-
--- the elements of something of this type
-abbrev pub element_at : Option ValueType → Option ValueType
-element_at None = None
-element_at (Some t) = element_of t
-
--- the type of a field
-abbrev pub type_at : Option FieldAt → Option ValueType
-type_at None = None
-type_at (Some f) = Some f.ty
-
--- 0 stands where no struct has the field, which the rules of types refuse
-abbrev pub number_at : Option FieldAt → ℕ
-number_at None = 0
-number_at (Some f) = f.number
-
--- the steps behind something of this type
-abbrev pub static_steps : Core → Option ValueType → CoreSteps → List StaticStep
-static_steps tree t NoSteps = []
-static_steps tree t (FieldStep name rest) = static.Field (number_at (field_at tree t name)) ∷ static_steps tree (type_at (field_at tree t name)) rest
-static_steps tree t (IndexStep at x rest) = index_step x ∷ static_steps tree (element_at t) rest
-
--- the type that the steps lead to
-abbrev pub type_behind : Core → Option ValueType → CoreSteps → Option ValueType
-type_behind tree t NoSteps = t
-type_behind tree t (FieldStep name rest) = type_behind tree (type_at (field_at tree t name)) rest
-type_behind tree t (IndexStep at x rest) = type_behind tree (element_at t) rest
 
 -- ---- callees
 
@@ -461,14 +413,6 @@ entry_events n (l ∷ ls) = Then (entry_event n l.kind l.name) (entry_events (su
 abbrev pub has_some : {A : Type 0} → Option A → Bool
 has_some None = false
 has_some (Some a) = true
-
--- the place of the `}`
-abbrev pub end_of : CoreBlock → Place
-end_of (BlockOf stmts end) = end
-
--- the statements of a block
-abbrev pub stmts_in : CoreBlock → CoreStmts
-stmts_in (BlockOf stmts end) = stmts
 
 -- what is around the statements of a body
 abbrev pub body_around : CoreBody → Around

@@ -6,13 +6,13 @@ use Rattle.hv_tree.specs.declared.refusal.Rule.TheVariants as rule
 use Rattle.hv_tree.specs.declared.types.Conv.{Conv}
 use Rattle.hv_tree.specs.declared.types.Conv.TheVariants as conv
 use Rattle.hv_tree.specs.Core.{Core, CoreStmt, Task, CoreCall, CallOf}
-use Rattle.hv_rules.specs.declared.path.StaticPath.{StaticPath}
+use Rattle.hv_decls.specs.declared.path.StaticPath.{StaticPath}
 use Rattle.hv_rules.specs.declared.event.FlowEvent.{FlowEvent}
 use Rattle.hv_rules.specs.declared.event.FlowEvent.TheVariants as event
-use Rattle.hv_rules.specs.Paths.{Overlap}
-use Rattle.hv_rules.specs.Types.{ValueType, leaves_of}
-use Rattle.hv_rules.specs.Locals.{Local, CoreBody, locals_of, local_in}
-use Rattle.hv_rules.specs.Sites.{Part, ExprPart, CallPart, PlacePart, StmtPart, TestPart, Scope, Site, sites_of, bodies_of}
+use Rattle.hv_decls.specs.Paths.{Overlap}
+use Rattle.hv_decls.specs.Types.{ValueType, leaves_of}
+use Rattle.hv_decls.specs.Locals.{Local, CoreBody, locals_of, local_in}
+use Rattle.hv_decls.specs.Sites.{Part, ExprPart, CallPart, PlacePart, StmtPart, TestPart, Scope, Site, sites_of, bodies_of}
 use Rattle.hv_rules.specs.Flow.{IsTrace}
 use Rattle.hv_rules.specs.Events.{Belongs, ToNothing, ToDeclaration, ToEnd, Mark, Callee, Constructs, Takes, callee_by, body_events}
 use Rattle.hv_rules.specs.States.{fields_of, has_index, is_front, Access, Reading, Spawned, Awaited, State, state_after}

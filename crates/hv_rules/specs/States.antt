@@ -1,8 +1,8 @@
 -- What a list of events leaves: initialised leaves, open accesses and handles.
 use Rattle.std.specs.Prelude.{ℕ, nat_lt, ◌==◌, Bool, true, false, not, ◌&&◌, if◌then◌else◌, List, [], ◌∷◌, filter, Option, Some, None}
-use Rattle.hv_rules.specs.declared.path.StaticStep.{StaticStep}
-use Rattle.hv_rules.specs.declared.path.StaticStep.TheVariants as step
-use Rattle.hv_rules.specs.declared.path.StaticPath.{StaticPath}
+use Rattle.hv_decls.specs.declared.path.StaticStep.{StaticStep}
+use Rattle.hv_decls.specs.declared.path.StaticStep.TheVariants as step
+use Rattle.hv_decls.specs.declared.path.StaticPath.{StaticPath}
 use Rattle.hv_rules.specs.declared.event.FlowEvent.{FlowEvent}
 use Rattle.hv_rules.specs.declared.event.FlowEvent.TheVariants as event
 use Rattle.hv_rules.specs.Events.{Belongs, ToNothing, ToDeclaration, ToEnd, Mark}

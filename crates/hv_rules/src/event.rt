@@ -1,4 +1,4 @@
-use crate::StaticPath;
+use hv_decls::StaticPath;
 
 /// What a body does, as far as the rules ask. A number is that of a local of the body.
 #[derive(Drop)]

@@ -1,12 +1,10 @@
-//! Static paths, events, and the rules of names, types, initialisation, exclusivity and handles.
+//! Events, and the rules of initialisation, exclusivity and handles; what is accepted.
 #![tactic(auto)]
 
 mod event;
-mod path;
-mod refused;
 #[cfg(test)]
 mod tests;
 
 pub use event::FlowEvent;
-pub use path::{StaticPath, StaticStep, overlap};
-pub use refused::earlier;
+pub use hv_decls::{StaticPath, StaticStep, overlap};
+pub use hv_tree::earlier;

@@ -3,9 +3,9 @@ use Rattle.std.proofs.Common.{◌≡◌, ◌⊎◌, inl, inr, Bool, true, false,
 use Rattle.hv_tree.specs.declared.types.Conv.{Conv}
 use Rattle.hv_tree.specs.declared.types.Conv.TheVariants as conv
 use Rattle.hv_tree.specs.Core.{CoreField, CoreParam, CoreTy, IntTy, BoolTy, NamedTy, ArrayTy, FunTy, FunToTy, CoreTys, NoTys, TyOf, CoreBlock, CoreExpr, Number, Truth, Path, Calls, Awaits, Array, Filled, Count, Lambda, Prefix, Chain, CoreStmt, Var, VarWith, Let, Inout, Assign, If, While, Return, ReturnWith, Print, Task, AwaitsAlone, CallsAlone, Bare}
-use Rattle.hv_rules.specs.Locals.{listed, CoreBody}
-use Rattle.hv_rules.specs.Sites.{Part, ExprPart, CallPart, PlacePart, StmtPart, TestPart, Scope, body_by}
-use Rattle.hv_rules.specs.Names.{param_type, field_type, types_of}
+use Rattle.hv_decls.specs.Locals.{listed, CoreBody}
+use Rattle.hv_decls.specs.Sites.{Part, ExprPart, CallPart, PlacePart, StmtPart, TestPart, Scope, body_by}
+use Rattle.hv_type_rules.specs.Names.{param_type, field_type, types_of}
 use Rattle.hv_lemmas.proofs.Members.{Among, in_left, in_right, either_in}
 use Rattle.hv_safe.specs.Runs.{OnlyReads, AllRead, PartRuns, Returns}
 use Rattle.hv_runs.specs.Walked as spec

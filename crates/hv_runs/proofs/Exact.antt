@@ -1,9 +1,9 @@
 -- The test of a program says exactly what the definition says.
 use Rattle.std.proofs.Common.{◌≡◌, ◌⊎◌, ◌↔◌, inl, inr, IsTrue, Bool, true, List, [], ◌∷◌, refl, sym, ◌∙◌, subst}
 use Rattle.hv_tree.specs.Core.{Core, CoreDecl, StructOf, FunOf, CoreFun, CoreStruct}
-use Rattle.hv_rules.specs.Locals.{CoreBody, fun_body}
-use Rattle.hv_rules.specs.Sites.{Site, body_scope, body_by, sites_of_body, decl_sites, lambdas_at, decl_bodies, sites_of, bodies_of}
-use Rattle.hv_rules.specs.Names.{types_of_decl, types_of}
+use Rattle.hv_decls.specs.Locals.{CoreBody, fun_body}
+use Rattle.hv_decls.specs.Sites.{Site, body_scope, body_by, sites_of_body, decl_sites, lambdas_at, decl_bodies, sites_of, bodies_of}
+use Rattle.hv_type_rules.specs.Names.{types_of_decl, types_of}
 use Rattle.hv_lemmas.proofs.Members.{Among, in_left, in_right, either_in, listed, contained}
 use Rattle.hv_safe.specs.Runs.{PartRuns, Returns, Runs}
 use Rattle.hv_runs.specs.Walked as spec

@@ -6,11 +6,11 @@ use Rattle.hv_tree.specs.declared.types.Name.{Name}
 use Rattle.hv_tree.specs.declared.refusal.Rule.{Rule}
 use Rattle.hv_tree.specs.declared.refusal.Rule.TheVariants as rule
 use Rattle.hv_tree.specs.Core.{Core, CoreDecl, StructOf, FunOf, CoreFun, CoreStruct, CoreParam, CoreTy, CoreBlock, BlockOf, CoreStmts, NoStmts, StmtOf, CoreBranches, NoElse, Else, BranchOf, CoreStmt, Var, VarWith, Let, Inout, Assign, If, While, Return, ReturnWith, Print, Task, AwaitsAlone, CallsAlone, Bare}
-use Rattle.hv_rules.specs.Types.{ValueType, struct_in, fun_in}
-use Rattle.hv_rules.specs.Locals.{Captured, VarBound, LetBound, InoutBound, Handle, Local, CoreBody, fun_body, entry_locals, locals_of, declared_in, in_branches, in_block, in_stmts, number_in, local_in, value_by}
-use Rattle.hv_rules.specs.Sites.{Scope, Site, sites_of, sites_of_body, lambdas_at, decl_bodies, bodies_of}
-use Rattle.hv_rules.specs.Names.{Named, decl_name, top_level, in_body, shared, NothingVisible, used_by, as_used, captured_by, as_captured, NoLocal, HasMain, IsViolatedByNames}
-use Rattle.hv_rules.specs.TypeRules.{ViolatesType, IsViolatedByTypes, at_part}
+use Rattle.hv_decls.specs.Types.{ValueType, struct_in, fun_in}
+use Rattle.hv_decls.specs.Locals.{Captured, VarBound, LetBound, InoutBound, Handle, Local, CoreBody, fun_body, entry_locals, locals_of, declared_in, in_branches, in_block, in_stmts, number_in, local_in, value_by}
+use Rattle.hv_decls.specs.Sites.{Scope, Site, sites_of, sites_of_body, lambdas_at, decl_bodies, bodies_of}
+use Rattle.hv_type_rules.specs.Names.{Named, decl_name, top_level, in_body, shared, NothingVisible, used_by, as_used, captured_by, as_captured, NoLocal, HasMain, IsViolatedByNames}
+use Rattle.hv_type_rules.specs.TypeRules.{ViolatesType, IsViolatedByTypes, at_part}
 use Rattle.hv_rules.specs.Accepted.{NamePhase, TypePhase, phase_of, IsFirstOf}
 use Rattle.hv_copying.specs.Places.{body_number}
 use Rattle.hv_lemmas.proofs.Members.{Among, in_left, in_right, either_in, listed, contained}

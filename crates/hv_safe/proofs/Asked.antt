@@ -5,17 +5,17 @@ use Rattle.hv_tree.specs.declared.ast.Operator.{Operator}
 use Rattle.hv_tree.specs.declared.ast.Operator.TheVariants as operator
 use Rattle.hv_tree.specs.Tokens.{Level, Ors, Ands, Comparisons, Sums, Products}
 use Rattle.hv_tree.specs.Core.{Core}
-use Rattle.hv_rules.specs.Types.{ValueType, IntType, BoolType, ArrayType}
-use Rattle.hv_rules.specs.Typing.{Known, Unknown, Nothing, Is, operand_type, given_type}
-use Rattle.hv_rules.specs.TypeRules.{Misfits}
+use Rattle.hv_decls.specs.Types.{ValueType, IntType, BoolType, ArrayType}
+use Rattle.hv_type_rules.specs.Typing.{Known, Unknown, Nothing, Is, operand_type, given_type}
+use Rattle.hv_type_rules.specs.TypeRules.{Misfits}
 use Rattle.hv_value.specs.ValueTree.{ValueTree, Number, Truth, Elements}
-use Rattle.hv_value.specs.Operators.{Given, Gives, Overflow, DivZero, BadLength, TooLong, in_range, of_numbers, of_number, of_truth, divide, remainder, filled, copies}
+use Rattle.hv_value.specs.Operators.{Given, Gives, Overflow, DivZero, BadLength, TooLong, in_range, of_numbers, of_number, of_truth, divide, remainder, filled, copies, binary, unary, decides}
 use Rattle.hv_value.specs.Operators as op
 use Rattle.hv_value.specs.Sizes.{fill_cost}
 use Rattle.hv_copying.specs.declared.end.TrapKind.TheVariants as trap_kind
 use Rattle.hv_copying.specs.Run.{Run, ◌>>=◌, pure, pay}
 use Rattle.hv_copying.specs.Copying.{Locals}
-use Rattle.hv_copying.specs.Operations.{number, binary, unary, decides, given, applied, filled_with, natural}
+use Rattle.hv_copying.specs.Operations.{number, given, applied, filled_with, natural}
 use Rattle.hv_typing.specs.Tests.{same_type}
 use Rattle.hv_judge.proofs.Deciding.{type_decides}
 use Rattle.hv_safe.specs.Formed.{level_of}

@@ -6,13 +6,13 @@ use Rattle.hv_tree.specs.declared.place.Place.{Place}
 use Rattle.hv_tree.specs.declared.types.Name.{Name}
 use Rattle.hv_tree.specs.declared.types.Conv.TheVariants as conv
 use Rattle.hv_tree.specs.Core.{Core, CoreStruct, CoreTy, CoreExpr, CoreSteps, FieldStep, IndexStep}
-use Rattle.hv_rules.specs.Types.{ValueType, IntType, ArrayType, meant, option_meant, params_of, type_of_field, fields_or_none, FieldAt, element_of}
-use Rattle.hv_rules.specs.Locals.{Captured, Local, CoreBody, entry_locals, locals_of, in_block, number_in, value_by, value_of}
-use Rattle.hv_rules.specs.Sites.{Scope, capture_local, bodies_of}
-use Rattle.hv_rules.specs.Events.{type_behind, type_at, field_at, element_at}
-use Rattle.hv_rules.specs.Typing.{Known, Unknown, Nothing, Is, or_nothing, Signature, Signed, wanted_params, by_struct, gives as signature_gives}
-use Rattle.hv_rules.specs.Typing as typing
-use Rattle.hv_rules.specs.TypeRules.{expr_place, Misfits, StepMisfits, StepsT3}
+use Rattle.hv_decls.specs.Types.{ValueType, IntType, ArrayType, meant, option_meant, params_of, type_of_field, fields_or_none, FieldAt, element_of}
+use Rattle.hv_decls.specs.Locals.{Captured, Local, CoreBody, entry_locals, locals_of, in_block, number_in, value_by, value_of}
+use Rattle.hv_decls.specs.Sites.{Scope, capture_local, bodies_of}
+use Rattle.hv_decls.specs.Statics.{type_behind, type_at, field_at, element_at}
+use Rattle.hv_type_rules.specs.Typing.{Known, Unknown, Nothing, Is, or_nothing, Signature, Signed, wanted_params, by_struct, gives as signature_gives}
+use Rattle.hv_type_rules.specs.Typing as typing
+use Rattle.hv_type_rules.specs.TypeRules.{expr_place, Misfits, StepMisfits, StepsT3}
 use Rattle.hv_value.specs.ValueTree.{ValueTree, Number, Fields, Parts, Nil, Cons, row}
 use Rattle.hv_value.specs.Walk.{Link, ToField, ToIndex}
 use Rattle.hv_value.specs.Operators.{count}

@@ -9,14 +9,13 @@ use Rattle.hv_tree.specs.declared.refusal.Rule.{Rule}
 use Rattle.hv_tree.specs.declared.refusal.Rule.TheVariants as rule
 use Rattle.hv_tree.specs.declared.refusal.Refusal.{Refusal}
 use Rattle.hv_tree.specs.Tokens.{Comparisons}
-use Rattle.hv_tree.specs.Core.{Core, CoreDecl, StructOf, FunOf, CoreFun, CoreParam, CoreTy, IntTy, ArrayTy, FunTy, FunToTy, NoTys, TyOf, CoreExpr, Number, Path, Calls, Array, Chain, NoExprs, NoLinks, LinkOf, NoSteps, CallOf, CoreArgs, NoArgs, ValueArg, BlockOf, CoreStmts, NoStmts, StmtOf, CoreStmt, Var, VarWith, Print, ReturnWith}
-use Rattle.hv_rules.specs.Locals.{Local, CoreBody, fun_body, locals_of}
-use Rattle.hv_rules.specs.Sites.{Site, sites_of, decl_bodies, bodies_of}
-use Rattle.hv_rules.specs.Events.{end_of}
-use Rattle.hv_rules.specs.Types.{StructType}
-use Rattle.hv_rules.specs.Typing.{Unknown, type_of}
-use Rattle.hv_rules.specs.TypeRules.{HoldsFunction, is_fun, is_fun_to, in_element, in_field, at_part, at_struct}
-use Rattle.hv_rules.specs.Names.{Repeats, Named, decl_name, local_name, top_level, of_fields, in_body, shared, SharesName, ViolatesN1, NothingVisible, ViolatesN2, in_decl, in_type, as_used, as_captured, used_by, captured_by, types_of, types_of_decl, names_in_all}
+use Rattle.hv_tree.specs.Core.{Core, CoreDecl, StructOf, FunOf, CoreFun, CoreParam, CoreTy, IntTy, ArrayTy, FunTy, FunToTy, NoTys, TyOf, CoreExpr, Number, Path, Calls, Array, Chain, NoExprs, NoLinks, LinkOf, NoSteps, CallOf, CoreArgs, NoArgs, ValueArg, BlockOf, CoreStmts, NoStmts, StmtOf, CoreStmt, Var, VarWith, Print, ReturnWith, end_of}
+use Rattle.hv_decls.specs.Locals.{Local, CoreBody, fun_body, locals_of}
+use Rattle.hv_decls.specs.Sites.{Site, sites_of, decl_bodies, bodies_of}
+use Rattle.hv_decls.specs.Types.{StructType}
+use Rattle.hv_type_rules.specs.Typing.{Unknown, type_of}
+use Rattle.hv_type_rules.specs.TypeRules.{HoldsFunction, is_fun, is_fun_to, in_element, in_field, at_part, at_struct}
+use Rattle.hv_type_rules.specs.Names.{Repeats, Named, decl_name, local_name, top_level, of_fields, in_body, shared, SharesName, ViolatesN1, NothingVisible, ViolatesN2, in_decl, in_type, as_used, as_captured, used_by, captured_by, types_of, types_of_decl, names_in_all}
 use Rattle.hv_rules.specs.Accepted.{NamePhase, TypePhase, phase_of, IsViolated, IsFirstOf}
 use Rattle.hv_rules.specs.Rules as rules
 use Rattle.hv_copying.specs.Run.{and_then, mine, become, pure, halt, pay, counted_from}

@@ -2,8 +2,8 @@
 use Rattle.std.proofs.Common.{◌≡◌, ℕ, zero, suc, ℤ, Bool, true, List, [], ◌∷◌, Option, Some, None, refl, sym, subst}
 use Rattle.std.specs.List.{slice_get}
 use Rattle.hv_tree.specs.Core.{Core}
-use Rattle.hv_rules.specs.Types.{ValueType, IntType, BoolType, StructType, ArrayType, FunType, FunToType, ParamTypes, option_meant, params_of, fun_type, field_types}
-use Rattle.hv_rules.specs.Locals.{Local, CoreBody}
+use Rattle.hv_decls.specs.Types.{ValueType, IntType, BoolType, StructType, ArrayType, FunType, FunToType, ParamTypes, option_meant, params_of, fun_type, field_types}
+use Rattle.hv_decls.specs.Locals.{Local, CoreBody}
 use Rattle.hv_value.specs.ValueTree.{ValueTree, Number, Truth, Fields, Elements, Closure, Parts, Nil, Cons}
 use Rattle.hv_value.specs.Places.{nth, change_nth}
 use Rattle.hv_value.specs.Holes.{is_whole, all_whole}

@@ -1,9 +1,9 @@
 -- Parts of bodies whose sites are among those of the program.
 use Rattle.std.proofs.Common.{◌≡◌, ◌⊎◌, inl, inr, List, [], ◌∷◌, ◌++◌, Some, refl}
 use Rattle.hv_tree.specs.Core.{Core, CoreDecl, StructOf, FunOf, CoreFun}
-use Rattle.hv_rules.specs.Types.{ValueType}
-use Rattle.hv_rules.specs.Locals.{Local, CoreBody, fun_body, value_by}
-use Rattle.hv_rules.specs.Sites.{Site, sites_of, sites_of_body, decl_sites, body_by, lambdas_at, decl_bodies, bodies_of}
+use Rattle.hv_decls.specs.Types.{ValueType}
+use Rattle.hv_decls.specs.Locals.{Local, CoreBody, fun_body, value_by}
+use Rattle.hv_decls.specs.Sites.{Site, sites_of, sites_of_body, decl_sites, body_by, lambdas_at, decl_bodies, bodies_of}
 use Rattle.hv_lemmas.proofs.Members.{Among, in_left, in_right, either_in}
 
 -- all of the sites are sites of the program

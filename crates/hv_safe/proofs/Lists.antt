@@ -6,11 +6,10 @@ use Rattle.std.proofs.lemmas.Slice.Eq.{bytes_eq-Decides}
 use Rattle.std.proofs.lemmas.Bool.{eqb-true, eq-eqb}
 use Rattle.hv_tree.specs.declared.place.Place.{Place}
 use Rattle.hv_tree.specs.declared.types.Name.{Name}
-use Rattle.hv_tree.specs.Core.{CoreDecl, StructOf, FunOf, CoreFun, CoreStruct, CoreField}
-use Rattle.hv_rules.specs.Types.{meant, fun_in, struct_in, type_of_field, FieldAt, field_from}
-use Rattle.hv_rules.specs.Locals.{Local, CoreBody, number_from, number_in, local_in}
-use Rattle.hv_rules.specs.Names.{Repeats, Named, local_name, decl_name}
-use Rattle.hv_rules.specs.Events.{end_of}
+use Rattle.hv_tree.specs.Core.{CoreDecl, StructOf, FunOf, CoreFun, CoreStruct, CoreField, end_of}
+use Rattle.hv_decls.specs.Types.{meant, fun_in, struct_in, type_of_field, FieldAt, field_from}
+use Rattle.hv_decls.specs.Locals.{Local, CoreBody, number_from, number_in, local_in}
+use Rattle.hv_type_rules.specs.Names.{Repeats, Named, local_name, decl_name}
 use Rattle.hv_copying.specs.Places.{same_place}
 use Rattle.hv_copying.specs.Places as bodies
 use Rattle.hv_lemmas.proofs.Members.{Among, listed}

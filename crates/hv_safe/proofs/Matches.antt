@@ -4,8 +4,8 @@ use Rattle.std.specs.List.{slice_get}
 use Rattle.std.proofs.lemmas.Option.{slice_get_within}
 use Rattle.hv_tree.specs.declared.place.Place.{Place}
 use Rattle.hv_tree.specs.Core.{Core}
-use Rattle.hv_rules.specs.Types.{ValueType}
-use Rattle.hv_rules.specs.Locals.{LocalKind, Captured, Passed, VarBound, LetBound, InoutBound, Handle, Local, CoreBody, entry_locals, locals_of, in_block, value_by}
+use Rattle.hv_decls.specs.Types.{ValueType}
+use Rattle.hv_decls.specs.Locals.{LocalKind, Captured, Passed, VarBound, LetBound, InoutBound, Handle, Local, CoreBody, entry_locals, locals_of, in_block, value_by}
 use Rattle.hv_value.specs.ValueTree.{ValueTree, Hole, Parts}
 use Rattle.hv_value.specs.Places.{put}
 use Rattle.hv_value.specs.Walk.{Reached, walk}

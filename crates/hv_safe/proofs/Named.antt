@@ -4,12 +4,12 @@ use Rattle.hv_tree.specs.declared.place.Place.{Place}
 use Rattle.hv_tree.specs.declared.types.Name.{Name}
 use Rattle.hv_tree.specs.declared.refusal.Rule.TheVariants as rule
 use Rattle.hv_tree.specs.Core.{Core, FunOf, CoreFun, CoreStruct, Path, CoreSteps, NoSteps, FieldStep, IndexStep, CallOf, CoreArgs}
-use Rattle.hv_rules.specs.Types.{ValueType, IntType, BoolType, StructType, ArrayType, FunType, FunToType, ParamTypes, option_meant, params_of, fun_type, fun_in, struct_in}
-use Rattle.hv_rules.specs.Locals.{Local, CoreBody, fun_body, locals_of, number_in, local_in, value_of}
-use Rattle.hv_rules.specs.Sites.{Scope, ExprPart, CallPart, site, sites_of, bodies_of}
-use Rattle.hv_rules.specs.Events.{static_steps, type_behind}
-use Rattle.hv_rules.specs.Typing.{known, or_nothing, Signature, Signed, wanted_params, by_value, by_struct, by_fun, by_name, signature_by, fun_value, named_value, path_by, place_type}
-use Rattle.hv_rules.specs.TypeRules.{NoValue, StepMisfits, StepsT3, NoFunction}
+use Rattle.hv_decls.specs.Types.{ValueType, IntType, BoolType, StructType, ArrayType, FunType, FunToType, ParamTypes, option_meant, params_of, fun_type, fun_in, struct_in}
+use Rattle.hv_decls.specs.Locals.{Local, CoreBody, fun_body, locals_of, number_in, local_in, value_of}
+use Rattle.hv_decls.specs.Sites.{Scope, ExprPart, CallPart, site, sites_of, bodies_of}
+use Rattle.hv_decls.specs.Statics.{static_steps, type_behind}
+use Rattle.hv_type_rules.specs.Typing.{known, or_nothing, Signature, Signed, wanted_params, by_value, by_struct, by_fun, by_name, signature_by, fun_value, named_value, path_by, place_type}
+use Rattle.hv_type_rules.specs.TypeRules.{NoValue, StepMisfits, StepsT3, NoFunction}
 use Rattle.hv_value.specs.ValueTree.{ValueTree, Closure, Parts, Nil}
 use Rattle.hv_value.specs.Walk.{Link}
 use Rattle.hv_value.specs.Sizes.{copy_cost}

@@ -9,14 +9,14 @@ use Rattle.hv_tree.specs.declared.ast.Operator.TheVariants as operator
 use Rattle.hv_tree.specs.declared.refusal.Rule.TheVariants as rule
 use Rattle.hv_tree.specs.Tokens.{Level}
 use Rattle.hv_tree.specs.Core.{Core, CoreParam, CoreTy, CoreExpr, Number, Truth, Path, Calls, Awaits, Array, Filled, Count, Lambda, Prefix, Chain, CoreExprs, NoExprs, ExprOf, CoreLinks, NoLinks, LinkOf, CoreSteps, NoSteps, FieldStep, IndexStep, CoreCall, CallOf, CoreArgs, NoArgs, ValueArg, RefArg, CoreBlock, BlockOf, CoreStmts, NoStmts, StmtOf, CoreBranches, NoElse, Else, BranchOf, CoreStmt, Var, VarWith, Let, Inout, Assign, If, While, Return, ReturnWith, Print, Task, AwaitsAlone, CallsAlone, Bare}
-use Rattle.hv_rules.specs.Types.{ValueType, IntType, BoolType, StructType, meant, option_meant, params_of, fun_type}
-use Rattle.hv_rules.specs.Locals.{Captured, VarBound, LetBound, Local, CoreBody, param_local, entry_locals, locals_of, declared_in, in_branches, in_block, in_stmts, number_in, local_in, value_by, value_of}
-use Rattle.hv_rules.specs.Locals as locals
-use Rattle.hv_rules.specs.Sites.{Scope, scope_behind, capture_local, lambda_body, ExprPart, CallPart, PlacePart, StmtPart, TestPart, site, sites_of, bodies_of, expr_sites, exprs_sites, link_sites, step_sites, call_sites, arg_sites, block_sites, stmts_sites, branch_sites, stmt_sites}
-use Rattle.hv_rules.specs.Events.{type_behind}
-use Rattle.hv_rules.specs.Typing.{Known, Unknown, Nothing, Is, known, array_of, operand_type, given_type, Signature, Signed, wanted_params, by_links, first_type, path_by, signature_of, call_type, place_type}
-use Rattle.hv_rules.specs.Typing as typing
-use Rattle.hv_rules.specs.TypeRules.{expr_place, Misfits, StepMisfits, StepsT3, NoArray, ChainMisfits, OperandMisfits, ReturnMisfits}
+use Rattle.hv_decls.specs.Types.{ValueType, IntType, BoolType, StructType, meant, option_meant, params_of, fun_type}
+use Rattle.hv_decls.specs.Locals.{Captured, VarBound, LetBound, Local, CoreBody, param_local, entry_locals, locals_of, declared_in, in_branches, in_block, in_stmts, number_in, local_in, value_by, value_of}
+use Rattle.hv_decls.specs.Locals as locals
+use Rattle.hv_decls.specs.Sites.{Scope, scope_behind, capture_local, lambda_body, ExprPart, CallPart, PlacePart, StmtPart, TestPart, site, sites_of, bodies_of, expr_sites, exprs_sites, link_sites, step_sites, call_sites, arg_sites, block_sites, stmts_sites, branch_sites, stmt_sites}
+use Rattle.hv_decls.specs.Statics.{type_behind}
+use Rattle.hv_type_rules.specs.Typing.{Known, Unknown, Nothing, Is, known, array_of, operand_type, given_type, Signature, Signed, wanted_params, by_links, first_type, path_by, signature_of, call_type, place_type}
+use Rattle.hv_type_rules.specs.Typing as typing
+use Rattle.hv_type_rules.specs.TypeRules.{expr_place, Misfits, StepMisfits, StepsT3, NoArray, ChainMisfits, OperandMisfits, ReturnMisfits}
 use Rattle.hv_value.specs.ValueTree.{ValueTree, Fields, Elements, Closure, Parts, Nil, Cons, row}
 use Rattle.hv_value.specs.ValueTree as v
 use Rattle.hv_value.specs.Texts.{text}
@@ -24,7 +24,8 @@ use Rattle.hv_copying.specs.declared.end.Cause.TheVariants.{Kinds}
 use Rattle.hv_copying.specs.Run.{Run, Flow, ◌>>=◌, pure}
 use Rattle.hv_copying.specs.Ops.{Spot, Reads, Value, Lent}
 use Rattle.hv_copying.specs.Ops as ops
-use Rattle.hv_copying.specs.Operations.{unary, binary, decides, applied, number, filled_with}
+use Rattle.hv_copying.specs.Operations.{applied, number, filled_with}
+use Rattle.hv_value.specs.Operators.{unary, binary, decides}
 use Rattle.hv_copying.specs.Places.{type_of, body_number, found}
 use Rattle.hv_copying.specs.Calls.{Deeper, passed_captures, callee, entered, pass_value}
 use Rattle.hv_copying.specs.Blocks.{first_token}

@@ -8,12 +8,12 @@ use Rattle.hv_tree.specs.declared.types.Conv.TheVariants as conv
 use Rattle.hv_tree.specs.declared.ast.Operator.{Operator}
 use Rattle.hv_tree.specs.Tokens.{Level}
 use Rattle.hv_tree.specs.Core.{Core, CoreField, CoreParam, CoreExprs, NoExprs, ExprOf, CoreLinks, NoLinks, LinkOf, CoreArgs, NoArgs, ValueArg, RefArg}
-use Rattle.hv_rules.specs.Types.{ValueType, IntType, BoolType, StructType, ArrayType, FunType, FunToType, meant, params_of, field_types, type_of_field, fields_or_none, field_of, FieldAt, element_of, struct_in}
-use Rattle.hv_rules.specs.Locals.{Local, CoreBody, param_local, entry_locals, locals_of, in_block, value_by}
-use Rattle.hv_rules.specs.Sites.{Scope, body_scope, Site, sites_of}
-use Rattle.hv_rules.specs.Typing.{Known, Unknown, Nothing, Is, array_of, or_nothing, operand_type, given_type, Wanted, Signature, Signed, wanted_params, wanted_field, by_struct, gives as signature_gives, signature_of, by_links, first_type}
-use Rattle.hv_rules.specs.Typing as typing
-use Rattle.hv_rules.specs.TypeRules.{expr_place, Misfits, ElementMisfits, ArgMisfits, CallMisfits, count_of, CountDiffers, HasMark, MarkDiffers, CallT5}
+use Rattle.hv_decls.specs.Types.{ValueType, IntType, BoolType, StructType, ArrayType, FunType, FunToType, meant, params_of, field_types, type_of_field, fields_or_none, field_of, FieldAt, element_of, struct_in}
+use Rattle.hv_decls.specs.Locals.{Local, CoreBody, param_local, entry_locals, locals_of, in_block, value_by}
+use Rattle.hv_decls.specs.Sites.{Scope, body_scope, Site, sites_of}
+use Rattle.hv_type_rules.specs.Typing.{Known, Unknown, Nothing, Is, array_of, or_nothing, operand_type, given_type, Wanted, Signature, Signed, wanted_params, wanted_field, by_struct, gives as signature_gives, signature_of, by_links, first_type}
+use Rattle.hv_type_rules.specs.Typing as typing
+use Rattle.hv_type_rules.specs.TypeRules.{expr_place, Misfits, ElementMisfits, ArgMisfits, CallMisfits, count_of, CountDiffers, HasMark, MarkDiffers, CallT5}
 use Rattle.hv_value.specs.ValueTree.{ValueTree, Elements, row}
 use Rattle.hv_lemmas.proofs.Members.{Among, either_in, contained}
 use Rattle.hv_safe.specs.Formed.{level_of, MayGoOn, AreOfLevel, HasElement, PartIsFormed}

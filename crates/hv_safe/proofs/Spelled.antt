@@ -17,14 +17,13 @@ use Rattle.hv_tree.specs.declared.ast.Stmt.{Stmt}
 use Rattle.hv_tree.specs.declared.ast.Tree.{Tree}
 use Rattle.hv_tree.specs.Tokens.{Tokens, mark, keyword, word, Level, Comparisons, IsInfix, or_sign, and_sign, eq_sign, ne_sign, lt_sign, le_sign, gt_sign, ge_sign, add_sign, sub_sign, mul_sign, div_sign, rem_sign}
 use Rattle.hv_tree.specs.Grammar.{place_of, IsOperand, and_operand, comparison_operand, sum_operand, product_operand, unary_operand, IsLevel, alone_level, chain_level, AreLinks, last_link, more_link, IsUnary, plain_unary, negated_unary, inverted_unary, IsPrimary, numeral_primary, truth_primary, falsehood_primary, path_primary, call_primary, group_primary, await_primary, array_primary, filled_primary, count_primary, lambda_primary, AreElements, one_element, more_element, AreSteps, none_step, field_step, index_step, IsCall, is_call, AreArgs, none_args, some_args, AreSomeArgs, one_arg, more_arg, IsArg, value_argument, ref_argument, IsBlock, is_block, AreStmts, none_stmts, more_stmts, bare_return_stmts, last_return_stmts, IsStmt, var_stmt, var_with_stmt, let_stmt, inout_stmt, assign_stmt, if_stmt, while_stmt, return_stmt, print_stmt, task_stmt, await_stmt, call_stmt, block_stmt, AreBranches, last_branch, last_else_branch, more_branch, IsDecl, struct_decl, fun_decl, AreDecls, no_decls, more_decls, Spells}
-use Rattle.hv_tree.specs.Core.{CoreDecl, StructOf, FunOf, CoreExpr, CoreExprs, CoreLinks, CoreSteps, CoreCall, CoreArgs, NoArgs, CoreBlock, CoreStmts, CoreBranches, CoreStmt, core_of, core_call, core_block, core_stmt, core_steps, core_arg, core_args, core_exprs, core_links, core_stmts, core_option_block, core_branches, core_decl, core_tree}
+use Rattle.hv_tree.specs.Core.{CoreDecl, StructOf, FunOf, CoreExpr, CoreExprs, CoreLinks, CoreSteps, CoreCall, CoreArgs, NoArgs, CoreBlock, CoreStmts, CoreBranches, CoreStmt, core_of, core_call, core_block, core_stmt, core_steps, core_arg, core_args, core_exprs, core_links, core_stmts, core_option_block, core_branches, core_decl, core_tree, end_of}
 use Rattle.hv_tree.proofs.CoreLemmas as lemmas
-use Rattle.hv_rules.specs.Locals.{CoreBody}
-use Rattle.hv_rules.specs.Sites.{sites_of, bodies_of}
-use Rattle.hv_rules.specs.Events.{end_of}
+use Rattle.hv_decls.specs.Locals.{CoreBody}
+use Rattle.hv_decls.specs.Sites.{sites_of, bodies_of}
 use Rattle.hv_lemmas.proofs.Members.{listed}
 use Rattle.hv_safe.specs.Formed.{level_of, MayGoOn, AreOfLevel, HasElement, IsBody, IsFormed, AreApart}
-use Rattle.hv_places.proofs.CoreParts.{core_int, core_truth, core_path_expr, core_calls, core_awaits, core_array, core_filled, core_count, core_lambda, core_prefix, core_chain, core_called, core_ref, core_body, core_test, core_var, core_var_with, core_let, core_inout, core_assign, core_if, core_while, core_return, core_return_with, core_print, core_task, core_awaits_alone, core_calls_alone, core_bare}
+use Rattle.hv_tree.proofs.CoreParts.{core_int, core_truth, core_path_expr, core_calls, core_awaits, core_array, core_filled, core_count, core_lambda, core_prefix, core_chain, core_called, core_ref, core_body, core_test, core_var, core_var_with, core_let, core_inout, core_assign, core_if, core_while, core_return, core_return_with, core_print, core_task, core_awaits_alone, core_calls_alone, core_bare}
 use Rattle.hv_safe.proofs.Comes.{Comes, none, skip, take_one, join, front, back, and_none, last_first, drop_first, each_once}
 use Rattle.hv_safe.proofs.Braces.{form_expr, form_exprs, form_links, form_steps, form_call, form_args, form_block, form_stmts, form_branches, form_stmt, form_decls, formed_among, at_decls, end_at, ends_expr, ends_exprs, ends_links, ends_steps, ends_call, ends_args, ends_block, ends_stmts, ends_branches, ends_stmt, ends_decls, body_end, of_decls}
 

@@ -1,8 +1,8 @@
 -- Accepted programs are never stuck: bodies, activations one in another, and the root.
 use Rattle.std.proofs.Common.{◌≡◌, ℕ, zero, suc, Bool, true, false, ◌||◌, [], ◌∷◌, map, length, Option, Some, None, option_and_then, is_some, codes, arith, refl, sym, ap, ◌∙◌, subst}
 use Rattle.hv_tree.specs.Core.{Core, CoreFun, CoreTy, CoreBlock, BlockOf, CoreStmts, NoStmts, StmtOf}
-use Rattle.hv_rules.specs.Locals.{CoreBody, fun_body, param_local, entry_locals, locals_of}
-use Rattle.hv_rules.specs.Sites.{body_scope, bodies_of}
+use Rattle.hv_decls.specs.Locals.{CoreBody, fun_body, param_local, entry_locals, locals_of}
+use Rattle.hv_decls.specs.Sites.{body_scope, bodies_of}
 use Rattle.hv_rules.specs.Accepted.{NamePhase, TypePhase, IsFirstOf}
 use Rattle.hv_copying.specs.Run.{Res, Now, Flow, ◌>>=◌}
 use Rattle.hv_copying.specs.Calls.{Deeper, ended}

@@ -3,7 +3,7 @@ use Rattle.std.proofs.Common.{◌≡◌, ℕ, ℤ, pos, negsuc, List, [], ◌∷
 use Rattle.std.specs.List.{slice_get}
 use Rattle.hv_tree.specs.declared.place.Place.{Place}
 use Rattle.hv_tree.specs.Core.{Core}
-use Rattle.hv_rules.specs.Types.{ValueType, StructType, ArrayType, field_types}
+use Rattle.hv_decls.specs.Types.{ValueType, StructType, ArrayType, field_types}
 use Rattle.hv_value.specs.declared.value.PathStep.{PathStep}
 use Rattle.hv_value.specs.declared.value.PathStep.TheVariants.{Field, At}
 use Rattle.hv_value.specs.ValueTree.{ValueTree, Fields, Elements, Parts}

@@ -5,10 +5,9 @@ use Rattle.hv_tree.specs.declared.ast.Operator.{Operator}
 use Rattle.hv_tree.specs.declared.ast.Operator.TheVariants as operator
 use Rattle.hv_tree.specs.declared.token.Token.{Token}
 use Rattle.hv_tree.specs.Tokens.{Tokens, Level, Ors, Ands, Comparisons, Sums, Products}
-use Rattle.hv_tree.specs.Core.{Core, CoreExpr, Array, Prefix, Chain, CoreExprs, NoExprs, ExprOf, CoreLinks, NoLinks, LinkOf}
-use Rattle.hv_rules.specs.Locals.{CoreBody}
-use Rattle.hv_rules.specs.Sites.{Part, ExprPart, CallPart, PlacePart, StmtPart, TestPart, Site, sites_of, bodies_of}
-use Rattle.hv_rules.specs.Events.{end_of}
+use Rattle.hv_tree.specs.Core.{Core, CoreExpr, Array, Prefix, Chain, CoreExprs, NoExprs, ExprOf, CoreLinks, NoLinks, LinkOf, end_of}
+use Rattle.hv_decls.specs.Locals.{CoreBody}
+use Rattle.hv_decls.specs.Sites.{Part, ExprPart, CallPart, PlacePart, StmtPart, TestPart, Site, sites_of, bodies_of}
 
 -- the level of an operator between two operands
 abbrev pub level_of : Operator → Option Level

@@ -2,9 +2,9 @@
 use Rattle.std.specs.Prelude.{◌≡◌, Bool, true, false, Option, Some, None, Contains}
 use Rattle.hv_tree.specs.declared.types.Conv.TheVariants as conv
 use Rattle.hv_tree.specs.Core.{Core, CoreDecl, CoreParam, CoreTy, IntTy, BoolTy, NamedTy, ArrayTy, FunTy, FunToTy, CoreTys, NoTys, TyOf, CoreExpr, Awaits, CoreBlock, BlockOf, CoreStmts, NoStmts, StmtOf, CoreStmt, Var, Inout, ReturnWith, Task, AwaitsAlone}
-use Rattle.hv_rules.specs.Locals.{CoreBody}
-use Rattle.hv_rules.specs.Sites.{Part, ExprPart, CallPart, PlacePart, StmtPart, TestPart, Site, sites_of, bodies_of}
-use Rattle.hv_rules.specs.Names.{types_of_decl, types_of}
+use Rattle.hv_decls.specs.Locals.{CoreBody}
+use Rattle.hv_decls.specs.Sites.{Part, ExprPart, CallPart, PlacePart, StmtPart, TestPart, Site, sites_of, bodies_of}
+use Rattle.hv_type_rules.specs.Names.{types_of_decl, types_of}
 
 -- ---- conventions
 

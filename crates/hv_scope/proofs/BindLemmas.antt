@@ -12,8 +12,8 @@ use Rattle.hv_tree.specs.declared.ast.Stmt.{Stmt, out-Stmt}
 use Rattle.hv_tree.specs.declared.ast.StmtKind.TheVariants as stmt
 use Rattle.hv_tree.specs.Core.{CoreStmt, core_ty, core_option_ty, core_stmt}
 use Rattle.hv_tree.proofs.CoreLemmas as lemmas
-use Rattle.hv_rules.specs.Types.{option_meant}
-use Rattle.hv_rules.specs.Locals.{VarBound, LetBound, InoutBound, Handle, Local, local, binds, listed}
+use Rattle.hv_decls.specs.Types.{option_meant}
+use Rattle.hv_decls.specs.Locals.{VarBound, LetBound, InoutBound, Handle, Local, local, binds, listed}
 use Rattle.hv_scope.specs.Known.{typed}
 
 meant_same : (t : Option Ty) → option_meant (core_option_ty t) ≡ typed t

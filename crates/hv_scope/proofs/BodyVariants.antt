@@ -22,8 +22,8 @@ use Rattle.hv_tree.specs.declared.ast.Arg.TheVariants as arg
 use Rattle.hv_tree.specs.declared.ast.Arg.TheOpen.{Arg-F, Step-F}
 use Rattle.hv_tree.specs.Core.{CoreSteps, NoSteps, CoreArgs, NoArgs, core_of, core_step, core_steps, core_place, core_arg, core_args, core_exprs, core_links, core_call, core_param, core_block, core_stmts, core_stmt, core_branches}
 use Rattle.hv_tree.proofs.CoreLemmas as lemmas
-use Rattle.hv_rules.specs.Locals.{Local, param_local, binds, listed}
-use Rattle.hv_rules.specs.Sites.{capture_local}
+use Rattle.hv_decls.specs.Locals.{Local, param_local, binds, listed}
+use Rattle.hv_decls.specs.Sites.{capture_local}
 use Rattle.hv_scope.specs.Bodies as spec
 use Rattle.hv_lemmas.proofs.Lists.{first_left}
 

@@ -5,8 +5,8 @@ use Rattle.hv_tree.specs.declared.ast.StructDecl.{StructDecl}
 use Rattle.hv_tree.specs.declared.ast.Decl.{Decl}
 use Rattle.hv_tree.specs.declared.ast.Decl.TheVariants as decl
 use Rattle.hv_tree.specs.Core.{CoreDecl, StructOf, FunOf, core_decl, core_block}
-use Rattle.hv_rules.specs.Locals.{fun_body}
-use Rattle.hv_rules.specs.Sites.{decl_bodies, body_scope, lambdas_at, sites_of_body}
+use Rattle.hv_decls.specs.Locals.{fun_body}
+use Rattle.hv_decls.specs.Sites.{decl_bodies, body_scope, lambdas_at, sites_of_body}
 use Rattle.hv_scope.specs.Known.{core_fun}
 use Rattle.hv_scope.specs.Bodies.{function_bodies}
 use Rattle.hv_lemmas.proofs.Lists.{first_left}

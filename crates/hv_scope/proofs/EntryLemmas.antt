@@ -4,7 +4,7 @@ use Rattle.std.proofs.lemmas.List.{length-map, length-reverse, reverse-append, r
 use Rattle.std.specs.Str.{bytes_eq}
 use Rattle.std.specs.List.{slice_get}
 use Rattle.std.specs.Cmp.Lexicographic.{bytes_decides, nat_list_eq_equiv}
-use Rattle.hv_rules.specs.Locals.{Local, local_in}
+use Rattle.hv_decls.specs.Locals.{Local, local_in}
 use Rattle.hv_scope.specs.declared.known.Entry.{Entry}
 use Rattle.hv_scope.specs.declared.known.Known.{Known}
 use Rattle.hv_scope.specs.Known.{local_by, text_of}

@@ -12,8 +12,8 @@ use Rattle.hv_tree.specs.declared.ast.Stmt.{Stmt, out-Stmt}
 use Rattle.hv_tree.specs.declared.ast.StmtKind.TheVariants as stmt
 use Rattle.hv_tree.specs.Core.{core_ty, core_option_ty, core_stmt, core_stmts, core_block, core_branches}
 use Rattle.hv_tree.proofs.CoreLemmas as lemmas
-use Rattle.hv_rules.specs.Types.{option_meant}
-use Rattle.hv_rules.specs.Locals.{VarBound, LetBound, InoutBound, Handle, local, declared_in, in_block, in_branches, in_stmts}
+use Rattle.hv_decls.specs.Types.{option_meant}
+use Rattle.hv_decls.specs.Locals.{VarBound, LetBound, InoutBound, Handle, local, declared_in, in_block, in_branches, in_stmts}
 use Rattle.hv_scope.specs.Known.{typed}
 use Rattle.hv_scope.specs.Blocks.{tests_declare, else_declares}
 

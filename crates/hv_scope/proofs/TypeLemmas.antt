@@ -19,8 +19,8 @@ use Rattle.hv_tree.specs.declared.ast.StmtKind.{StmtKind}
 use Rattle.hv_tree.specs.declared.ast.Arg.TheOpen.{Step-F}
 use Rattle.hv_tree.specs.Core.{Core, core_ty, CoreSteps, NoSteps, core_step, core_steps}
 use Rattle.hv_tree.proofs.CoreLemmas as lemmas
-use Rattle.hv_rules.specs.Types.{ValueType, meant, FieldAt, struct_in, fields_or_none, field_from, field_of, element_of}
-use Rattle.hv_rules.specs.Events as events
+use Rattle.hv_decls.specs.Types.{ValueType, meant, FieldAt, struct_in, fields_or_none, field_from, field_of, element_of}
+use Rattle.hv_decls.specs.Statics as statics
 use Rattle.hv_lemmas.proofs.Lists.{first_left}
 
 -- ---- elements
@@ -78,21 +78,21 @@ abbrev StepLayer : Type 0
 StepLayer = Step-F Arg ExprKind Step StmtKind Block Branch Call Expr PlaceExpr Stmt
 
 module _ (tree : Core) (t : Option ValueType) where
-  pub behind_field : (s : Step) (name : Name) → s ≡ step.Field name → events.type_behind tree t (core_step s NoSteps) ≡ events.type_at (events.field_at tree t name)
-  behind_field s name h = ap (λ u. events.type_behind tree t (core_step u NoSteps)) h ∙ ap (events.type_behind tree t) (lemmas.step_field NoSteps name)
+  pub behind_field : (s : Step) (name : Name) → s ≡ step.Field name → statics.type_behind tree t (core_step s NoSteps) ≡ statics.type_at (statics.field_at tree t name)
+  behind_field s name h = ap (λ u. statics.type_behind tree t (core_step u NoSteps)) h ∙ ap (statics.type_behind tree t) (lemmas.step_field NoSteps name)
 
-  pub behind_index : (s : Step) (at : Place) (x : Expr) → s ≡ step.Index at x → events.type_behind tree t (core_step s NoSteps) ≡ events.element_at t
-  behind_index s at x h = ap (λ u. events.type_behind tree t (core_step u NoSteps)) h ∙ ap (events.type_behind tree t) (lemmas.step_index NoSteps at x)
+  pub behind_index : (s : Step) (at : Place) (x : Expr) → s ≡ step.Index at x → statics.type_behind tree t (core_step s NoSteps) ≡ statics.element_at t
+  behind_index s at x h = ap (λ u. statics.type_behind tree t (core_step u NoSteps)) h ∙ ap (statics.type_behind tree t) (lemmas.step_index NoSteps at x)
 
-  behind_by : (s : Step) (rest : CoreSteps) (u : StepLayer) → out-Step s ≡ u → events.type_behind tree t (core_step s rest) ≡ events.type_behind tree (events.type_behind tree t (core_step s NoSteps)) rest
+  behind_by : (s : Step) (rest : CoreSteps) (u : StepLayer) → out-Step s ≡ u → statics.type_behind tree t (core_step s rest) ≡ statics.type_behind tree (statics.type_behind tree t (core_step s NoSteps)) rest
   behind_by s rest (Step-F.Field name) e =
-      ap (events.type_behind tree t) (lemmas.by_field s rest name e) ∙ sym (ap (λ c. events.type_behind tree (events.type_behind tree t c) rest) (lemmas.by_field s NoSteps name e))
+      ap (statics.type_behind tree t) (lemmas.by_field s rest name e) ∙ sym (ap (λ c. statics.type_behind tree (statics.type_behind tree t c) rest) (lemmas.by_field s NoSteps name e))
   behind_by s rest (Step-F.Index at x) e =
-      ap (events.type_behind tree t) (lemmas.by_index s rest at x e) ∙ sym (ap (λ c. events.type_behind tree (events.type_behind tree t c) rest) (lemmas.by_index s NoSteps at x e))
+      ap (statics.type_behind tree t) (lemmas.by_index s rest at x e) ∙ sym (ap (λ c. statics.type_behind tree (statics.type_behind tree t c) rest) (lemmas.by_index s NoSteps at x e))
 
-  pub behind_split : (s : Step) (rest : CoreSteps) → events.type_behind tree t (core_step s rest) ≡ events.type_behind tree (events.type_behind tree t (core_step s NoSteps)) rest
+  pub behind_split : (s : Step) (rest : CoreSteps) → statics.type_behind tree t (core_step s rest) ≡ statics.type_behind tree (statics.type_behind tree t (core_step s NoSteps)) rest
   behind_split s rest = behind_by s rest (out-Step s) refl
 
   pub behind_next : (steps : List Step) (i : ℕ) (s : Step) → i < length steps → s ≡ get_or steps i s →
-      events.type_behind tree t (core_steps (drop i steps)) ≡ events.type_behind tree (events.type_behind tree t (core_step s NoSteps)) (core_steps (drop (i + 1) steps))
-  behind_next steps i s within is = ap (λ w. events.type_behind tree t (core_steps w)) (first_left steps i s within is) ∙ behind_split s (core_steps (drop (i + 1) steps))
+      statics.type_behind tree t (core_steps (drop i steps)) ≡ statics.type_behind tree (statics.type_behind tree t (core_step s NoSteps)) (core_steps (drop (i + 1) steps))
+  behind_next steps i s within is = ap (λ w. statics.type_behind tree t (core_steps w)) (first_left steps i s within is) ∙ behind_split s (core_steps (drop (i + 1) steps))

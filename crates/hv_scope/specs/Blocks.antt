@@ -3,7 +3,7 @@ use Rattle.std.specs.Prelude.{List, [], ◌∷◌, ◌++◌, Option, Some, None}
 use Rattle.hv_tree.specs.declared.ast.Block.{Block}
 use Rattle.hv_tree.specs.declared.ast.Branch.{Branch, out-Branch}
 use Rattle.hv_tree.specs.Core.{core_block}
-use Rattle.hv_rules.specs.Locals.{Local, in_block}
+use Rattle.hv_decls.specs.Locals.{Local, in_block}
 
 abbrev pub tests_declare : List Branch → List Local
 tests_declare [] = []

@@ -8,8 +8,8 @@ use Rattle.hv_tree.specs.declared.ast.Expr.{Expr}
 use Rattle.hv_tree.specs.declared.ast.Param.{Param}
 use Rattle.hv_tree.specs.declared.ast.FunDecl.{FunDecl}
 use Rattle.hv_tree.specs.Core.{CoreParam, CoreTy, CoreExpr, Number, Truth, Path, Calls, Awaits, Array, Filled, Count, Lambda, Prefix, Chain, CoreExprs, NoExprs, ExprOf, CoreLinks, NoLinks, LinkOf, CoreSteps, NoSteps, FieldStep, IndexStep, CoreCall, CallOf, CoreArgs, NoArgs, ValueArg, RefArg, CoreBlock, BlockOf, CoreStmts, NoStmts, StmtOf, CoreBranches, NoElse, Else, BranchOf, CoreStmt, Var, VarWith, Let, Inout, Assign, If, While, Return, ReturnWith, Print, Task, AwaitsAlone, CallsAlone, Bare, core_param, core_option_ty, core_of, core_block}
-use Rattle.hv_rules.specs.Locals.{Local, binds, listed, CoreBody, entry_locals, param_local}
-use Rattle.hv_rules.specs.Sites as sites
+use Rattle.hv_decls.specs.Locals.{Local, binds, listed, CoreBody, entry_locals, param_local}
+use Rattle.hv_decls.specs.Sites as sites
 use Rattle.hv_scope.specs.declared.bodies.Body.{Body}
 use Rattle.hv_scope.specs.Known.{local_by}
 

@@ -7,8 +7,8 @@ use Rattle.hv_tree.specs.declared.types.Name.{Name}
 use Rattle.hv_tree.specs.declared.ast.FunDecl.{FunDecl}
 use Rattle.hv_tree.specs.declared.ast.StructDecl.{StructDecl}
 use Rattle.hv_tree.specs.Core.{CoreFun, CoreStruct, core_ty, core_param, core_option_ty, core_block, core_field}
-use Rattle.hv_rules.specs.Types.{ValueType, FieldAt, meant}
-use Rattle.hv_rules.specs.Locals.{LocalKind, Captured, Passed, VarBound, LetBound, InoutBound, Handle, Local}
+use Rattle.hv_decls.specs.Types.{ValueType, FieldAt, meant}
+use Rattle.hv_decls.specs.Locals.{LocalKind, Captured, Passed, VarBound, LetBound, InoutBound, Handle, Local}
 use Rattle.hv_scope.specs.declared.known.Kind.{Kind}
 use Rattle.hv_scope.specs.declared.known.Kind.TheVariants as kind
 use Rattle.hv_scope.specs.declared.known.Known.{Known}

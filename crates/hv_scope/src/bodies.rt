@@ -1,8 +1,8 @@
 // The bodies of a program, in the order of their opening braces.
 ghost use Rattle.std.specs.Prelude.{◌≡◌, ◌++◌, ◌∷◌, [], map, length, IfOk, OnOk};
 ghost use Rattle.hv_tree.specs.Core.{core_of, core_param, core_option_ty, core_block, core_exprs, core_links, core_steps, core_step, NoSteps, core_call, core_args, core_arg, NoArgs, core_stmt, core_stmts, core_decl, core_tree};
-ghost use Rattle.hv_rules.specs.Locals.{param_local};
-ghost use Rattle.hv_rules.specs.Sites as sites;
+ghost use Rattle.hv_decls.specs.Locals.{param_local};
+ghost use Rattle.hv_decls.specs.Sites as sites;
 ghost use Rattle.hv_scope.specs.Known.{local_by};
 ghost use Rattle.hv_scope.specs.Bodies as spec;
 ghost use Rattle.hv_scope.specs.Oldest.{oldest};

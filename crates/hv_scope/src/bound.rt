@@ -1,8 +1,8 @@
 // What is visible where a walk stands.
 ghost use Rattle.std.specs.Prelude.{◌≡◌, ◌++◌, ◌∷◌, [], map, length, IfOk, OnOk};
 ghost use Rattle.hv_tree.specs.Core.{core_param, core_stmt};
-ghost use Rattle.hv_rules.specs.Locals.{param_local, binds, listed};
-ghost use Rattle.hv_rules.specs.Sites.{capture_local};
+ghost use Rattle.hv_decls.specs.Locals.{param_local, binds, listed};
+ghost use Rattle.hv_decls.specs.Sites.{capture_local};
 ghost use Rattle.hv_scope.specs.Known.{local_by, declared_by};
 ghost use Rattle.hv_scope.specs.Oldest.{oldest};
 

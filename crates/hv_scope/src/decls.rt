@@ -1,7 +1,7 @@
 ghost use Rattle.std.specs.Prelude.{◌≡◌, map, IfOk};
 ghost use Rattle.std.specs.Option.{option_copied};
 ghost use Rattle.hv_tree.specs.Core.{core_tree};
-ghost use Rattle.hv_rules.specs.Types.{field_from, fields_or_none, fun_in, struct_in};
+ghost use Rattle.hv_decls.specs.Types.{field_from, fields_or_none, fun_in, struct_in};
 ghost use Rattle.hv_scope.specs.Known.{core_struct, field_found, option_function, option_struct};
 ghost use Rattle.hv_scope.specs.Tops.{structs_in, struct_number};
 

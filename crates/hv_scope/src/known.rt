@@ -1,7 +1,7 @@
 // A local, and what is known of its type.
 ghost use Rattle.std.specs.Prelude.{◌≡◌, Some};
 ghost use Rattle.std.specs.Option.{option_copied};
-ghost use Rattle.hv_rules.specs.Locals.{value_of};
+ghost use Rattle.hv_decls.specs.Locals.{value_of};
 ghost use Rattle.hv_scope.specs.Known.{local_by, typed};
 
 use hv_tree::{Conv, Name, Ty};

@@ -1,7 +1,7 @@
 // The locals of a body in the order of their declarations.
 ghost use Rattle.std.specs.Prelude.{◌≡◌, ◌++◌, ◌∷◌, [], map, IfOk, OnOk};
 ghost use Rattle.hv_tree.specs.Core.{core_stmt, core_stmts, core_block};
-ghost use Rattle.hv_rules.specs.Locals.{declared_in, in_block, in_stmts, locals_of};
+ghost use Rattle.hv_decls.specs.Locals.{declared_in, in_block, in_stmts, locals_of};
 ghost use Rattle.hv_scope.specs.Known.{local_by, declared_by};
 ghost use Rattle.hv_scope.specs.Bodies.{body_by};
 ghost use Rattle.hv_scope.specs.Blocks.{tests_declare, else_declares};

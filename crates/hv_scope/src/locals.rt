@@ -1,5 +1,5 @@
 ghost use Rattle.std.specs.Prelude.{◌≡◌, map, IfOk};
-ghost use Rattle.hv_rules.specs.Locals.{number_in, local_in};
+ghost use Rattle.hv_decls.specs.Locals.{number_in, local_in};
 ghost use Rattle.hv_scope.specs.Known.{found_number, found_local, local_by};
 
 use crate::known::Known;

@@ -1,7 +1,7 @@
 ghost use Rattle.std.specs.Prelude.{◌≡◌, ◌++◌, ◌∷◌, [], map, IfOk};
 ghost use Rattle.std.specs.Option.{option_copied};
 ghost use Rattle.hv_tree.specs.Core.{core_field};
-ghost use Rattle.hv_rules.specs.Types.{field_from};
+ghost use Rattle.hv_decls.specs.Types.{field_from};
 ghost use Rattle.hv_texts.specs.Texts.{index_of};
 ghost use Rattle.hv_scope.specs.Known.{field_found};
 ghost use Rattle.hv_scope.specs.Tops.{field_text, fields_at, name_of_struct, struct_decls};

@@ -2,8 +2,8 @@
 ghost use Rattle.std.specs.Prelude.{◌≡◌};
 ghost use Rattle.std.specs.Option.{option_copied};
 ghost use Rattle.hv_tree.specs.Core.{core_step, core_steps, core_tree, core_ty, NoSteps};
-ghost use Rattle.hv_rules.specs.Types.{field_of, meant};
-ghost use Rattle.hv_rules.specs.Events as events;
+ghost use Rattle.hv_decls.specs.Types.{field_of, meant};
+ghost use Rattle.hv_decls.specs.Statics as statics;
 ghost use Rattle.hv_scope.specs.Known.{typed, field_found};
 
 use crate::decls::Declared;
@@ -25,7 +25,7 @@ pub fn field_at<'t>(
     ty: Option<&'t Ty>,
     name: &Name,
 ) -> Option<(usize, &'t Ty)>
-    ensures { field_found result ≡ events.field_at (core_tree declared.now) (typed (option_copied ty.entry)) name.now }
+    ensures { field_found result ≡ statics.field_at (core_tree declared.now) (typed (option_copied ty.entry)) name.now }
 {
     match ty {
         Some(ty) => field_of(declared, ty, name),
@@ -36,7 +36,7 @@ pub fn field_at<'t>(
 /// The type of the elements of something of this type.
 #[tactic(auto, using(crate::proofs::TypeLemmas::element_opened, crate::proofs::TypeLemmas::element_array), unfolding(crate::proofs::TypeLemmas::element_by))]
 pub fn element_at<'t>(ty: Option<&'t Ty>) -> Option<&'t Ty>
-    ensures { typed (option_copied result) ≡ events.element_at (typed (option_copied ty.entry)) }
+    ensures { typed (option_copied result) ≡ statics.element_at (typed (option_copied ty.entry)) }
 {
     match ty {
         Some(Ty::Array(_, element)) => Some(element.get()),
@@ -47,7 +47,7 @@ pub fn element_at<'t>(ty: Option<&'t Ty>) -> Option<&'t Ty>
 /// The type of what the step leads to.
 #[tactic(auto, using(crate::proofs::TypeLemmas::behind_field, crate::proofs::TypeLemmas::behind_index))]
 pub fn behind<'t>(declared: &Declared<'t>, ty: Option<&'t Ty>, step: &Step) -> Option<&'t Ty>
-    ensures { typed (option_copied result) ≡ events.type_behind (core_tree declared.now) (typed (option_copied ty.entry)) (core_step step.now NoSteps) }
+    ensures { typed (option_copied result) ≡ statics.type_behind (core_tree declared.now) (typed (option_copied ty.entry)) (core_step step.now NoSteps) }
 {
     match step {
         Step::Field(name) => match field_at(declared, ty, name) {
@@ -64,7 +64,7 @@ pub fn type_behind<'t>(
     ty: Option<&'t Ty>,
     steps: &[Step],
 ) -> Option<&'t Ty>
-    ensures { typed (option_copied result) ≡ events.type_behind (core_tree declared.now) (typed (option_copied ty.entry)) (core_steps steps.now) }
+    ensures { typed (option_copied result) ≡ statics.type_behind (core_tree declared.now) (typed (option_copied ty.entry)) (core_steps steps.now) }
 {
     let mut known = ty;
     for step in steps {

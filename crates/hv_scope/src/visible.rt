@@ -1,5 +1,5 @@
 ghost use Rattle.std.specs.Prelude.{◌≡◌, ◌∷◌, [], length, drop, map, OnOk};
-ghost use Rattle.hv_rules.specs.Locals.{local_in};
+ghost use Rattle.hv_decls.specs.Locals.{local_in};
 ghost use Rattle.hv_scope.specs.Known.{local_by, option_local};
 ghost use Rattle.hv_scope.specs.Oldest.{oldest};
 

@@ -4,6 +4,7 @@ ghost use Rattle.std.specs.Prelude.{◌≡◌, ℕ, [], ◌∷◌, ◌++◌, opt
 ghost use Rattle.hv_value.specs.Texts as texts;
 ghost use Rattle.hv_copying.specs.Run as run;
 ghost use Rattle.hv_copying.specs.Operations as operations;
+ghost use Rattle.hv_value.specs.Operators as operators;
 ghost use Rattle.hv_held.specs.HeldTree.{held_tree};
 ghost use Rattle.hv_held.specs.Results.{given_of};
 ghost use Rattle.hv_state.specs.Gives.{Gives, from, nothing, itself};
@@ -39,7 +40,7 @@ pub fn truth(task: &Task, held: &Held) -> Result<bool, Halt>
 
 /// Whether `&&` or `||` stops at this operand.
 pub fn decides(operator: Operator, held: &Held) -> bool
-    ensures { result ≡ operations.decides operator (held_tree held.now) }
+    ensures { result ≡ operators.decides operator (held_tree held.now) }
 {
     match (operator, held) {
         (Operator::And, Held::Bool(b)) => !*b,
@@ -62,14 +63,14 @@ fn given(task: &Task, at: Place, computed: Option<Computed>) -> Result<Held, Hal
 
 /// What an operator gives, or its trap.
 pub fn binary(task: &Task, operator: Operator, at: Place, a: &Held, b: &Held) -> Result<Held, Halt>
-    ensures { (n : ℕ) → Gives held_tree (from (operations.applied at (operations.binary operator (held_tree a.now) (held_tree b.now))) n task.now) result task.now }
+    ensures { (n : ℕ) → Gives held_tree (from (operations.applied at (operators.binary operator (held_tree a.now) (held_tree b.now))) n task.now) result task.now }
 {
     given(task, at, hv_held::binary(operator, a, b))
 }
 
 /// What an operator with one operand gives, or its trap.
 pub fn unary(task: &Task, operator: Operator, at: Place, a: &Held) -> Result<Held, Halt>
-    ensures { (n : ℕ) → Gives held_tree (from (operations.applied at (operations.unary operator (held_tree a.now))) n task.now) result task.now }
+    ensures { (n : ℕ) → Gives held_tree (from (operations.applied at (operators.unary operator (held_tree a.now))) n task.now) result task.now }
 {
     given(task, at, hv_held::unary(operator, a))
 }

@@ -9,8 +9,9 @@ use Rattle.hv_tree.specs.declared.types.Conv.TheVariants as conv
 use Rattle.hv_tree.specs.Core.{Core, CoreExpr, CoreBlock, BlockOf, CoreBranches, NoElse, Else, BranchOf, CoreStmts, NoStmts, StmtOf, CoreStmt, Var, VarWith, Let, Inout, Assign, If, While, Return, ReturnWith, Print, Task, AwaitsAlone, CallsAlone, Bare}
 use Rattle.hv_rules.specs.declared.event.FlowEvent.TheVariants as event
 use Rattle.hv_rules.specs.Flow.{Flow, Skip, Do, Stop, Then, Either, Loop}
-use Rattle.hv_rules.specs.Locals.{LocalKind, Captured, Passed, VarBound, LetBound, InoutBound, Handle, Local, CoreBody, entry_locals, locals_of, declared_in, in_block, binds}
+use Rattle.hv_decls.specs.Locals.{LocalKind, Captured, Passed, VarBound, LetBound, InoutBound, Handle, Local, CoreBody, entry_locals, locals_of, declared_in, in_block, binds}
 use Rattle.hv_rules.specs.Events as events
+use Rattle.hv_tree.specs.Core as core
 use Rattle.hv_rules.specs.Rules.{back_at}
 use Rattle.hv_lemmas.proofs.Members.{Among, listed}
 use Rattle.hv_traces.specs.Carried.{behind, carrying}
@@ -305,7 +306,7 @@ module _ (U : ℕ → Type 0) where
       s = events.body_around body
 
       inner : CoreStmts
-      inner = events.stmts_in body.block
+      inner = core.stmts_in body.block
 
       ks : List ℕ
       ks = entries_sight 0 (entry_locals body) []

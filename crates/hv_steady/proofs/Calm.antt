@@ -5,11 +5,12 @@ use Rattle.hv_tree.specs.declared.types.Name.{Name}
 use Rattle.hv_tree.specs.declared.types.Conv.{Conv}
 use Rattle.hv_tree.specs.declared.types.Conv.TheVariants as conv
 use Rattle.hv_tree.specs.Core.{Core, CoreExpr, Number, Truth, Path, Calls, Awaits, Array, Filled, Count, Lambda, Prefix, Chain, CoreExprs, NoExprs, ExprOf, CoreLinks, NoLinks, LinkOf, CoreSteps, NoSteps, FieldStep, IndexStep, CoreCall, CallOf, CoreArgs, NoArgs, ValueArg, RefArg}
-use Rattle.hv_rules.specs.declared.path.StaticPath.{StaticPath}
+use Rattle.hv_decls.specs.declared.path.StaticPath.{StaticPath}
 use Rattle.hv_rules.specs.declared.event.FlowEvent.TheVariants as event
 use Rattle.hv_rules.specs.Flow.{Skip, Do, Stop, Then, Either, Loop}
-use Rattle.hv_rules.specs.Locals.{Local, number_in, value_of}
+use Rattle.hv_decls.specs.Locals.{Local, number_in, value_of}
 use Rattle.hv_rules.specs.Events as events
+use Rattle.hv_decls.specs.Statics as statics
 use Rattle.hv_traces.specs.Carried.{behind, Steady}
 use Rattle.hv_steady.specs.Sight.{sees}
 use Rattle.hv_steady.proofs.Each.{Each}
@@ -63,7 +64,7 @@ module _ (Is : events.Mark → Type 0) (may : MayDo Is) where
   module _ (tree : Core) (locals : List Local) where
     rooted : (does : events.Doing) (o : Option ℕ) (root : Name) (steps : CoreSteps) → Does Is does → Each Is (events.on_root tree locals does o root steps)
     rooted does None root steps d = tt
-    rooted does (Some n) root steps d = d (record { root = n; steps = events.static_steps tree (value_of (events.local_of tree locals root)) steps }) root.place
+    rooted does (Some n) root steps d = d (record { root = n; steps = statics.static_steps tree (value_of (events.local_of tree locals root)) steps }) root.place
 
     on_handle : (o : Option ℕ) (at : Place) → Each Is (events.on_handle tree locals event.Await o at)
     on_handle None at = tt

@@ -4,12 +4,12 @@ use Rattle.std.specs.Prelude.{⊤}
 use Rattle.std.specs.List.{list_any}
 use Rattle.std.proofs.lemmas.Bool.Decides.{nat_tests}
 use Rattle.hv_tree.specs.Core.{Core}
-use Rattle.hv_rules.specs.declared.path.StaticStep.{StaticStep}
-use Rattle.hv_rules.specs.declared.path.StaticPath.{StaticPath}
+use Rattle.hv_decls.specs.declared.path.StaticStep.{StaticStep}
+use Rattle.hv_decls.specs.declared.path.StaticPath.{StaticPath}
 use Rattle.hv_rules.specs.declared.event.FlowEvent.{FlowEvent}
 use Rattle.hv_rules.specs.declared.event.FlowEvent.TheVariants as event
 use Rattle.hv_rules.specs.Flow.{Flow, Skip, Do, Stop, Then, Either, Loop, Turns, none, more, Ends, Leaves, IsWhole, IsTrace}
-use Rattle.hv_rules.specs.Locals.{CoreBody}
+use Rattle.hv_decls.specs.Locals.{CoreBody}
 use Rattle.hv_rules.specs.Events.{Belongs, Mark, body_events}
 use Rattle.hv_rules.specs.States.{Leaf, has_index, fields_of, is_front, covers, changed, emptied, filled_by, filled_at_close, Mode, Reading, Writing, Setting, Access, last_called, binding_of, State, after_event, after, after_all, start, Filled}
 use Rattle.hv_rules.specs.Rules.{Trace}

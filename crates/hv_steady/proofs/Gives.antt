@@ -7,8 +7,9 @@ use Rattle.hv_tree.specs.declared.types.Conv.TheVariants as conv
 use Rattle.hv_tree.specs.Core.{Core, CoreBlock, BlockOf, CoreBranches, NoElse, Else, BranchOf, CoreStmts, NoStmts, StmtOf, CoreStmt, Var, VarWith, Let, Inout, Assign, If, While, Return, ReturnWith, Print, Task, AwaitsAlone, CallsAlone, Bare}
 use Rattle.hv_rules.specs.declared.event.FlowEvent.TheVariants as event
 use Rattle.hv_rules.specs.Flow.{Skip, Do, Stop, Then, Either, Loop}
-use Rattle.hv_rules.specs.Locals.{LocalKind, Captured, Passed, VarBound, LetBound, InoutBound, Handle, Local, CoreBody, entry_locals, locals_of}
+use Rattle.hv_decls.specs.Locals.{LocalKind, Captured, Passed, VarBound, LetBound, InoutBound, Handle, Local, CoreBody, entry_locals, locals_of}
 use Rattle.hv_rules.specs.Events as events
+use Rattle.hv_tree.specs.Core as core
 use Rattle.hv_rules.specs.States.{binding_of}
 use Rattle.hv_traces.specs.Carried.{behind, carrying}
 use Rattle.hv_steady.specs.Sight.{seen_at, text_of, sees}
@@ -148,7 +149,7 @@ entries_give k n (l ∷ ls) (inr h) = (entry_gives k n l.kind l.name (λ e. omeg
 pub set_isn't_given : (tree : Core) (body : CoreBody) (k : ℕ) → IsSetOf 0 (entry_locals body) k → list_any (gives_at k) (text_in tree body) ≡ false
 set_isn't_given tree body k h =
     none_gives k (events.body_events tree body) []
-    (entries_give k 0 (entry_locals body) h, (stmts_give tree (locals_of body) k (events.body_around body) (events.stmts_in body.block) within, refl))
+    (entries_give k 0 (entry_locals body) h, (stmts_give tree (locals_of body) k (events.body_around body) (core.stmts_in body.block) within, refl))
   where
     within : k < length (entry_locals body)
     within = omega (arith, (set_within 0 (entry_locals body) k h).1)

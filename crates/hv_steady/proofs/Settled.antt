@@ -3,9 +3,9 @@ use Rattle.std.proofs.Common.{◌≡◌, ◌||◌, not, inl, inr, ℕ, Bool, tru
 use Rattle.std.proofs.lemmas.Bool.{eq-eqb}
 use Rattle.std.specs.List.{list_any}
 use Rattle.hv_tree.specs.Core.{Core}
-use Rattle.hv_rules.specs.declared.path.StaticPath.{StaticPath}
+use Rattle.hv_decls.specs.declared.path.StaticPath.{StaticPath}
 use Rattle.hv_rules.specs.Flow.{IsTrace}
-use Rattle.hv_rules.specs.Locals.{CoreBody}
+use Rattle.hv_decls.specs.Locals.{CoreBody}
 use Rattle.hv_rules.specs.Events.{Mark, body_events}
 use Rattle.hv_rules.specs.Rules.{Trace, asks_whole}
 use Rattle.hv_traces.specs.Carried.{after_each}

@@ -7,8 +7,9 @@ use Rattle.hv_tree.specs.declared.types.Conv.TheVariants as conv
 use Rattle.hv_tree.specs.Core.{Core, CoreExpr, CoreSteps, CoreCall, CoreBlock, BlockOf, CoreBranches, NoElse, Else, BranchOf, CoreStmts, NoStmts, StmtOf, CoreStmt, Var, VarWith, Let, Inout, Assign, If, While, Return, ReturnWith, Print, Task, AwaitsAlone, CallsAlone, Bare}
 use Rattle.hv_rules.specs.declared.event.FlowEvent.TheVariants as event
 use Rattle.hv_rules.specs.Flow.{Do, Then, Either}
-use Rattle.hv_rules.specs.Locals.{LocalKind, Captured, Passed, VarBound, LetBound, InoutBound, Handle, Local, CoreBody, entry_locals, locals_of, declared_in, in_block, in_stmts}
+use Rattle.hv_decls.specs.Locals.{LocalKind, Captured, Passed, VarBound, LetBound, InoutBound, Handle, Local, CoreBody, entry_locals, locals_of, declared_in, in_block, in_stmts}
 use Rattle.hv_rules.specs.Events as events
+use Rattle.hv_tree.specs.Core as core
 use Rattle.hv_traces.specs.Carried.{behind, Steady}
 use Rattle.hv_steady.specs.Sight.{declared_before, sees}
 use Rattle.hv_steady.specs.Ordered.{Below}
@@ -241,5 +242,5 @@ pub body_level : (tree : Core) (body : CoreBody) → Steady sees (events.body_ev
 body_level tree body =
     let n = length (entry_locals body) in
     let p = entries_level 0 (entry_locals body) [] tt in
-    let q = stmts_level tree (locals_of body) (events.body_around body) (events.stmts_in body.block) (entries_sight 0 (entry_locals body) []) (below_up (0 + n) n (entries_sight 0 (entry_locals body) []) (omega arith) p.2) in
-    (p.0, subst (λ z. Steady sees (Then (events.stmts_events tree (locals_of body) (events.body_around body) (events.stmts_in body.block)) (Do (events.body_end body (events.body_around body)))) z) (sym p.1) (q.0, tt))
+    let q = stmts_level tree (locals_of body) (events.body_around body) (core.stmts_in body.block) (entries_sight 0 (entry_locals body) []) (below_up (0 + n) n (entries_sight 0 (entry_locals body) []) (omega arith) p.2) in
+    (p.0, subst (λ z. Steady sees (Then (events.stmts_events tree (locals_of body) (events.body_around body) (core.stmts_in body.block)) (Do (events.body_end body (events.body_around body)))) z) (sym p.1) (q.0, tt))

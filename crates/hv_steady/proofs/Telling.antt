@@ -1,11 +1,11 @@
 -- The words of a body's plan tell what the text of the body shows.
 use Rattle.std.proofs.Common.{◌≡◌, ◌<◌, ℕ, length, get_or, replicate, Bool, false, List, [], ◌∷◌, ◌++◌, map, Option, None, refl, sym, ap, ◌∙◌, append_assoc, append-nil}
 use Rattle.std.proofs.lemmas.List.{map-append, length-map}
-use Rattle.hv_tree.specs.Core.{Core}
+use Rattle.hv_tree.specs.Core.{Core, end_of}
 use Rattle.hv_rules.specs.declared.event.FlowEvent.TheVariants as event
 use Rattle.hv_rules.specs.Flow.{Flow, Skip, Do, Stop, Then, Either, Loop}
-use Rattle.hv_rules.specs.Locals.{CoreBody}
-use Rattle.hv_rules.specs.Events.{Mark, Events, end_of, body_events}
+use Rattle.hv_decls.specs.Locals.{CoreBody}
+use Rattle.hv_rules.specs.Events.{Mark, Events, body_events}
 use Rattle.hv_rules.specs.States.{binding_of}
 use Rattle.hv_traces.specs.Carried.{behind, Steady, carrying}
 use Rattle.hv_plan.specs.declared.plan.FlowOp.{FlowOp}

@@ -5,7 +5,8 @@ ghost use Rattle.hv_steady.specs.Sight.{sight_behind};
 ghost use Rattle.hv_steady.specs.Standings as spec;
 
 use crate::sight::Sight;
-use hv_rules::{FlowEvent, StaticPath, StaticStep};
+use hv_decls::{StaticPath, StaticStep};
+use hv_rules::FlowEvent;
 use std::alloc::AllocError as NoMemory;
 
 /// Whether one of the steps is an index.

@@ -1,7 +1,7 @@
 // Laws, which do nothing when they are called.
 ghost use Rattle.std.specs.Prelude.{◌≡◌, ℕ, false};
 ghost use Rattle.hv_tree.specs.Core.{Core};
-ghost use Rattle.hv_rules.specs.Locals.{CoreBody};
+ghost use Rattle.hv_decls.specs.Locals.{CoreBody};
 ghost use Rattle.hv_init_law.specs.Layout.{IsFilledWhereAsked};
 ghost use Rattle.hv_steady.specs.Needs.{needs_state};
 

@@ -1,7 +1,7 @@
 // Which locals need a state, in one pass over the words of a plan.
 ghost use Rattle.std.specs.Prelude.{◌≡◌, ◌<◌, ℕ, [], false, None, length, map, get_or, replicate, IfOk, OnOk};
 ghost use Rattle.hv_tree.specs.Core.{Core};
-ghost use Rattle.hv_rules.specs.Locals.{CoreBody};
+ghost use Rattle.hv_decls.specs.Locals.{CoreBody};
 ghost use Rattle.hv_plan.specs.Spelling.{plan_of_body};
 ghost use Rattle.hv_steady.specs.Needs.{needs_state};
 ghost use Rattle.hv_steady.specs.declared.standing.Standing.TheVariants.{Unfilled};

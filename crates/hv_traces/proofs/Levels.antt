@@ -7,11 +7,13 @@ use Rattle.hv_tree.specs.declared.types.Name.{Name}
 use Rattle.hv_tree.specs.declared.types.Conv.{Conv}
 use Rattle.hv_tree.specs.declared.types.Conv.TheVariants as conv
 use Rattle.hv_tree.specs.Core.{Core, CoreExpr, Number, Truth, Path, Calls, Awaits, Array, Filled, Count, Lambda, Prefix, Chain, CoreExprs, NoExprs, ExprOf, CoreLinks, NoLinks, LinkOf, CoreSteps, NoSteps, FieldStep, IndexStep, CoreCall, CallOf, CoreArgs, NoArgs, ValueArg, RefArg, CoreBlock, BlockOf, CoreBranches, NoElse, Else, BranchOf, CoreStmts, NoStmts, StmtOf, CoreStmt, Var, VarWith, Let, Inout, Assign, If, While, Return, ReturnWith, Print, Task, AwaitsAlone, CallsAlone, Bare}
-use Rattle.hv_rules.specs.declared.path.StaticPath.{StaticPath}
+use Rattle.hv_decls.specs.declared.path.StaticPath.{StaticPath}
 use Rattle.hv_rules.specs.declared.event.FlowEvent.TheVariants as event
 use Rattle.hv_rules.specs.Flow.{Skip, Do, Then, Either}
-use Rattle.hv_rules.specs.Locals.{LocalKind, Captured, Passed, VarBound, LetBound, InoutBound, Handle, Local, CoreBody, entry_locals, locals_of, number_in, value_of, declared_in, in_block, in_stmts}
+use Rattle.hv_decls.specs.Locals.{LocalKind, Captured, Passed, VarBound, LetBound, InoutBound, Handle, Local, CoreBody, entry_locals, locals_of, number_in, value_of, declared_in, in_block, in_stmts}
 use Rattle.hv_rules.specs.Events as events
+use Rattle.hv_decls.specs.Statics as statics
+use Rattle.hv_tree.specs.Core as core
 use Rattle.hv_rules.specs.States.{Access, Reading, closed, dropped_or_kept, stays, without_bindings}
 use Rattle.hv_traces.specs.Carried.{behind, Steady}
 use Rattle.hv_traces.specs.Opened.{opens}
@@ -117,8 +119,8 @@ module _ (tree : Core) (locals : List Local) where
       Grows (if g then events.is_local tree locals o else false) b (events.on_root tree locals does o root steps)
   rooted true b does None root steps d = λ xs. (tt, refl)
   rooted false b does None root steps d = λ xs. (tt, refl)
-  rooted true b does (Some n) root steps d = d (record { root = n; steps = events.static_steps tree (value_of (events.local_of tree locals root)) steps }) root.place
-  rooted false b does (Some n) root steps d = d (record { root = n; steps = events.static_steps tree (value_of (events.local_of tree locals root)) steps }) root.place
+  rooted true b does (Some n) root steps d = d (record { root = n; steps = statics.static_steps tree (value_of (events.local_of tree locals root)) steps }) root.place
+  rooted false b does (Some n) root steps d = d (record { root = n; steps = statics.static_steps tree (value_of (events.local_of tree locals root)) steps }) root.place
 
   used : (o : Option ℕ) (root : Name) (steps : CoreSteps) → Level (events.on_root tree locals events.uses o root steps)
   used o root steps = rooted false None events.uses o root steps uses
@@ -270,7 +272,7 @@ module _ (tree : Core) (locals : List Local) where
       let q = h xs b in
       ((p.0, subst (λ z. Steady opens f z) (sym p.1) q.0), ap (behind opens f) p.1 ∙ q.1)
 
-  looped : (s : events.Around) (test : CoreExpr) (body : CoreBlock) → Shut s.next (events.block_events tree locals s body) → Shut s.next (events.stmt_events tree locals s (While (events.end_of body) test body))
+  looped : (s : events.Around) (test : CoreExpr) (body : CoreBlock) → Shut s.next (events.block_events tree locals s body) → Shut s.next (events.stmt_events tree locals s (While (core.end_of body) test body))
   looped s test body h xs b =
       let p = test_first s.next test (events.block_events tree locals s body) h xs b in
       let q = value test xs in
@@ -372,5 +374,5 @@ entries n (l ∷ ls) = one_then _ _ (entry_kind n l.kind l.name) (entries (suc n
 pub body_steady : (tree : Core) (body : CoreBody) → Steady opens (events.body_events tree body) []
 body_steady tree body =
     let p = entries 0 (entry_locals body) [] in
-    let q = stmts tree (locals_of body) (events.body_around body) (events.stmts_in body.block) [] tt in
-    (p.0, subst (λ z. Steady opens (Then (events.stmts_events tree (locals_of body) (events.body_around body) (events.stmts_in body.block)) (Do (events.body_end body (events.body_around body)))) z) (sym p.1) (q.0, tt))
+    let q = stmts tree (locals_of body) (events.body_around body) (core.stmts_in body.block) [] tt in
+    (p.0, subst (λ z. Steady opens (Then (events.stmts_events tree (locals_of body) (events.body_around body) (core.stmts_in body.block)) (Do (events.body_end body (events.body_around body)))) z) (sym p.1) (q.0, tt))

@@ -4,7 +4,7 @@ use Rattle.hv_tree.specs.Core.{Core}
 use Rattle.hv_rules.specs.declared.event.FlowEvent.{FlowEvent}
 use Rattle.hv_rules.specs.declared.event.FlowEvent.TheVariants as event
 use Rattle.hv_rules.specs.Flow.{IsTrace}
-use Rattle.hv_rules.specs.Locals.{CoreBody}
+use Rattle.hv_decls.specs.Locals.{CoreBody}
 use Rattle.hv_rules.specs.Events.{Belongs, Mark, body_events}
 use Rattle.hv_rules.specs.States.{Access, State, after_event, after_all, after, start, Open}
 use Rattle.hv_rules.specs.Rules.{Trace}

@@ -2,7 +2,7 @@
 ghost use Rattle.std.specs.Prelude.{◌≡◌, ◌↔◌, List, [], map};
 ghost use Rattle.hv_tree.specs.Core.{Core};
 ghost use Rattle.hv_rules.specs.Flow.{Flow, IsTrace};
-ghost use Rattle.hv_rules.specs.Locals.{CoreBody};
+ghost use Rattle.hv_decls.specs.Locals.{CoreBody};
 ghost use Rattle.hv_traces.specs.Mapped.{mapped};
 ghost use Rattle.hv_traces.specs.Carried.{Steady, carrying, Carries, without};
 ghost use Rattle.hv_traces.specs.Opened.{IsOpenedAt};

@@ -8,3 +8,5 @@ pub mod Refused
 mod Examples
 mod NotSpelled
 mod PrintedExamples
+pub mod CoreParts
+pub mod Orders

@@ -344,3 +344,11 @@ pub record Core : Type 0 where
 
 abbrev pub core_tree : Tree → Core
 core_tree tree = record { decls = map core_decl tree.decls }
+
+-- the place of the `}`
+abbrev pub end_of : CoreBlock → Place
+end_of (BlockOf stmts end) = end
+
+-- the statements of a block
+abbrev pub stmts_in : CoreBlock → CoreStmts
+stmts_in (BlockOf stmts end) = stmts

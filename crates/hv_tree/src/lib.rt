@@ -3,6 +3,8 @@
 
 mod ast;
 pub mod builders;
+mod least;
+mod order;
 mod place;
 mod refusal;
 mod task;
@@ -16,6 +18,8 @@ pub use ast::{
     Arg, Block, Branch, Call, Decl, Expr, ExprKind, Field, FunDecl, Operator, Param, PlaceExpr,
     Step, Stmt, StmtKind, StructDecl, Tree,
 };
+pub use least::first;
+pub use order::earlier;
 pub use place::{Place, line_col};
 pub use refusal::{Edition, Refusal, Rule};
 pub use task::{Named, TaskId};

@@ -3,7 +3,7 @@ use Rattle.std.proofs.Common.{◌≡◌, Option, Some, None, refl, ap, ◌∙◌
 use Rattle.hv_tree.specs.declared.types.Ty.{Ty, out-Ty}
 use Rattle.hv_tree.specs.declared.types.Ty.TheOpen.{Ty-F}
 use Rattle.hv_tree.specs.Core.{Core}
-use Rattle.hv_rules.specs.Types.{ParamTypes, fun_type, ValueType}
+use Rattle.hv_decls.specs.Types.{ParamTypes, fun_type, ValueType}
 use Rattle.hv_scope.specs.Tops.{struct_number}
 use Rattle.hv_typing.specs.Held.{ty_by}
 use Rattle.hv_typing.proofs.Opened.{shape_of, shape_opened}

@@ -3,8 +3,8 @@ use Rattle.std.proofs.Common.{◌≡◌, inl, inr, ℕ, not, ◌||◌, nat_lt, L
 use Rattle.hv_tree.specs.declared.refusal.Rule.TheVariants as rule
 use Rattle.hv_tree.specs.declared.refusal.Refusal.{Refusal}
 use Rattle.hv_tree.specs.Core.{Core, CoreDecl, StructOf, FunOf}
-use Rattle.hv_rules.specs.Types.{StructType, within, leaves_of, most_depth, most_leaves}
-use Rattle.hv_rules.specs.Earlier.{IsFirst}
+use Rattle.hv_decls.specs.Types.{StructType, within, leaves_of, most_depth, most_leaves}
+use Rattle.hv_tree.specs.Earlier.{IsFirst}
 use Rattle.hv_rules.specs.Accepted.{NamePhase, TypePhase, IsFirstOf, IsViolatedInPhase}
 use Rattle.hv_scope.specs.Tops.{structs_in, struct_number}
 use Rattle.hv_judge.specs.Judged as judged

@@ -5,7 +5,7 @@ use Rattle.std.specs.Str.{bytes_eq}
 use Rattle.std.proofs.lemmas.Option.{get_or_from_slice_get, slice_get-map}
 use Rattle.std.proofs.lemmas.Slice.Eq.{bytes_eq-Decides}
 use Rattle.hv_tree.specs.Core.{CoreDecl, StructOf, FunOf, CoreStruct}
-use Rattle.hv_rules.specs.Types.{struct_in}
+use Rattle.hv_decls.specs.Types.{struct_in}
 use Rattle.hv_scope.specs.Tops.{structs_in, struct_number, struct_from}
 
 -- the struct with a name, and its number

@@ -23,9 +23,9 @@ use Rattle.hv_tree.specs.declared.ast.Decl.{Decl}
 use Rattle.hv_tree.specs.declared.ast.Decl.TheVariants as decl
 use Rattle.hv_tree.specs.declared.ast.FunDecl.{FunDecl}
 use Rattle.hv_tree.specs.declared.ast.StructDecl.{StructDecl}
-use Rattle.hv_rules.specs.Locals.{Local, param_local, binds, listed, fun_body}
-use Rattle.hv_rules.specs.Sites as sites
-use Rattle.hv_rules.specs.Sites.{Scope, Site, ExprPart, StmtPart, CallPart, PlacePart, TestPart, site}
+use Rattle.hv_decls.specs.Locals.{Local, param_local, binds, listed, fun_body}
+use Rattle.hv_decls.specs.Sites as sites
+use Rattle.hv_decls.specs.Sites.{Scope, Site, ExprPart, StmtPart, CallPart, PlacePart, TestPart, site}
 use Rattle.hv_scope.specs.declared.known.Known.{Known}
 use Rattle.hv_scope.specs.Known.{local_by, core_fun}
 use Rattle.hv_lemmas.proofs.Lists.{first_left}

@@ -1,6 +1,6 @@
 -- How many leaves structs have over the table, in rounds: after the n-th one the leaves of types of at most n levels are counted, as far as structs may have so many.
 use Rattle.std.specs.Prelude.{ℕ, zero, suc, ◌+◌, if◌then◌else◌, nat_eq, nat_lt, List, [], ◌∷◌, map, get_or}
-use Rattle.hv_rules.specs.Types.{most_depth, most_leaves}
+use Rattle.hv_decls.specs.Types.{most_depth, most_leaves}
 use Rattle.hv_types.specs.declared.fields.FieldType.{FieldType}
 use Rattle.hv_types.specs.declared.fields.FieldBase.{FieldBase}
 use Rattle.hv_types.specs.declared.fields.FieldBase.TheVariants as base

@@ -1,7 +1,7 @@
 -- The depths of structs over the table, in rounds: after the n-th one those of depth at most n are known, and 0 stands for each other.
 use Rattle.std.specs.Prelude.{ℕ, zero, suc, Bool, true, if◌then◌else◌, ◌&&◌, ◌-◌, nat_lt, List, [], ◌∷◌, get_or}
 use Rattle.std.specs.List.{list_all}
-use Rattle.hv_rules.specs.Types.{most_depth}
+use Rattle.hv_decls.specs.Types.{most_depth}
 use Rattle.hv_types.specs.Depths as depths
 use Rattle.hv_types.specs.declared.fields.FieldType.{FieldType}
 use Rattle.hv_types.specs.declared.fields.FieldBase.{FieldBase}

@@ -4,8 +4,8 @@ use Rattle.std.specs.List.{slice_get}
 use Rattle.hv_tree.specs.declared.refusal.Rule.TheVariants as rule
 use Rattle.hv_tree.specs.declared.refusal.Refusal.{Refusal}
 use Rattle.hv_tree.specs.Core.{Core, CoreStruct}
-use Rattle.hv_rules.specs.Types.{StructType, most_depth, most_leaves}
-use Rattle.hv_rules.specs.TypeRules.{HoldsFunction}
+use Rattle.hv_decls.specs.Types.{StructType, most_depth, most_leaves}
+use Rattle.hv_type_rules.specs.TypeRules.{HoldsFunction}
 use Rattle.hv_scope.specs.Tops.{structs_in, struct_number}
 use Rattle.hv_texts.specs.Texts.{has}
 use Rattle.hv_judge.specs.Judged.{only, refusal, all_judged}

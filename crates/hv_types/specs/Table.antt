@@ -1,7 +1,7 @@
 -- The structs of a program by number, with the types of their fields.
 use Rattle.std.specs.Prelude.{◌≡◌, ℕ, suc, if◌then◌else◌, nat_lt, List, [], map, Option, Some, None, get_or, Contains}
 use Rattle.hv_tree.specs.Core.{Core, CoreStruct}
-use Rattle.hv_rules.specs.Types.{ValueType, IntType, BoolType, StructType, ArrayType, FunType, FunToType, type_of_field, most_depth}
+use Rattle.hv_decls.specs.Types.{ValueType, IntType, BoolType, StructType, ArrayType, FunType, FunToType, type_of_field, most_depth}
 use Rattle.hv_scope.specs.Tops.{structs_in, struct_number}
 use Rattle.hv_types.specs.declared.fields.FieldType.{FieldType}
 use Rattle.hv_types.specs.declared.fields.FieldBase.{FieldBase}

@@ -17,13 +17,13 @@ use Rattle.hv_tree.specs.declared.ast.Stmt.{Stmt}
 use Rattle.hv_tree.specs.Core as core
 use Rattle.hv_tree.specs.declared.ast.Decl.{Decl}
 use Rattle.hv_tree.specs.declared.ast.FunDecl.{FunDecl}
-use Rattle.hv_rules.specs.Locals.{param_local, fun_body}
-use Rattle.hv_rules.specs.Sites as sites
-use Rattle.hv_rules.specs.Sites.{Scope, Site, TestPart, PlacePart, site}
+use Rattle.hv_decls.specs.Locals.{param_local, fun_body}
+use Rattle.hv_decls.specs.Sites as sites
+use Rattle.hv_decls.specs.Sites.{Scope, Site, TestPart, PlacePart, site}
 use Rattle.hv_scope.specs.declared.known.Known.{Known}
 use Rattle.hv_scope.specs.Known.{local_by, core_fun}
 use Rattle.hv_judge.specs.Judged as spec
-use Rattle.hv_rules.specs.Types.{BoolType}
+use Rattle.hv_decls.specs.Types.{BoolType}
 use Rattle.hv_types.specs.declared.here.Program.{Program}
 
 -- what is around a part

@@ -1,7 +1,7 @@
 // The structs of a program by number, with the types of their fields.
 ghost use Rattle.std.specs.Prelude.{◌≡◌, map, IfOk};
 ghost use Rattle.hv_tree.specs.Core.{core_tree, core_ty, core_field};
-ghost use Rattle.hv_rules.specs.Types.{meant, most_depth, type_of_field};
+ghost use Rattle.hv_decls.specs.Types.{meant, most_depth, type_of_field};
 ghost use Rattle.hv_scope.specs.Tops.{struct_number};
 ghost use Rattle.hv_types.specs.Table as spec;
 

@@ -20,10 +20,10 @@ use Rattle.hv_tree.specs.declared.ast.StmtKind.{StmtKind}
 use Rattle.hv_tree.specs.declared.ast.Arg.TheOpen.{ExprKind-F, Step-F}
 use Rattle.hv_tree.specs.Core.{Core, CoreSteps, NoSteps, core_of, core_kind, core_place, core_call, core_step, core_steps, core_exprs, core_links, core_param, core_option_ty}
 use Rattle.hv_tree.proofs.CoreLemmas as lemmas
-use Rattle.hv_rules.specs.Types.{ValueType, ParamTypes, IntType, BoolType, params_of, fun_type, option_meant, fun_in, struct_in, meant}
-use Rattle.hv_rules.specs.Locals.{Local, local_in}
-use Rattle.hv_rules.specs.Typing as typing
-use Rattle.hv_rules.specs.Typing.{Known, Unknown, Nothing, Is, Signature, NoSignature, Signed, wanted_params}
+use Rattle.hv_decls.specs.Types.{ValueType, ParamTypes, IntType, BoolType, params_of, fun_type, option_meant, fun_in, struct_in, meant}
+use Rattle.hv_decls.specs.Locals.{Local, local_in}
+use Rattle.hv_type_rules.specs.Typing as typing
+use Rattle.hv_type_rules.specs.Typing.{Known, Unknown, Nothing, Is, Signature, NoSignature, Signed, wanted_params}
 use Rattle.hv_scope.specs.Known.{typed}
 use Rattle.hv_typing.specs.declared.around.Around.{Around}
 use Rattle.hv_typing.specs.Held.{ty_by, pairs_by, takes_by, taken_by}

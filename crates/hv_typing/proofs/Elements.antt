@@ -4,7 +4,7 @@ use Rattle.std.specs.Borrow.{Bor}
 use Rattle.hv_tree.specs.declared.types.Ty.{Ty}
 use Rattle.hv_tree.specs.declared.types.Name.{Name}
 use Rattle.hv_tree.specs.Core.{Core}
-use Rattle.hv_rules.specs.Types.{ValueType, FieldAt, element_of, field_of}
+use Rattle.hv_decls.specs.Types.{ValueType, FieldAt, element_of, field_of}
 use Rattle.hv_scope.specs.Known.{typed, field_found}
 use Rattle.hv_typing.specs.Tests as tests
 use Rattle.hv_typing.specs.Held.{option_ty_by, ty_by}

@@ -7,7 +7,7 @@ use Rattle.hv_tree.specs.declared.types.Ty.TheOpen.{Ty-F}
 use Rattle.hv_tree.specs.declared.ast.Param.{Param}
 use Rattle.hv_tree.specs.Core.{core_param, core_option_ty}
 use Rattle.hv_tree.proofs.CoreLemmas as lemmas
-use Rattle.hv_rules.specs.Types.{ValueType, IntType, BoolType, StructType, ArrayType, ParamTypes, Taken, FunType, FunToType, NoneTaken, meant, option_meant, params_of, fun_type}
+use Rattle.hv_decls.specs.Types.{ValueType, IntType, BoolType, StructType, ArrayType, ParamTypes, Taken, FunType, FunToType, NoneTaken, meant, option_meant, params_of, fun_type}
 use Rattle.hv_typing.specs.declared.types.Shape.{Shape}
 use Rattle.hv_typing.specs.declared.types.Shape.TheVariants as shape
 use Rattle.hv_typing.specs.declared.types.Takes.{Takes}

@@ -5,8 +5,8 @@ use Rattle.std.specs.Option.{option_copied}
 use Rattle.hv_tree.specs.declared.types.Ty.{Ty}
 use Rattle.hv_tree.specs.declared.types.Conv.{Conv}
 use Rattle.hv_tree.specs.Core.{core_ty, core_tys_of, core_param, core_option_ty, core_field}
-use Rattle.hv_rules.specs.Types.{ValueType, IntType, BoolType, StructType, ArrayType, ParamTypes, NoneTaken, Taken, meant, option_meant, params_meant, params_of, fun_type}
-use Rattle.hv_rules.specs.Typing.{Known, Unknown, Nothing, Is, Wanted, Signature, NoSignature, Signed, wanted_params, wanted_field}
+use Rattle.hv_decls.specs.Types.{ValueType, IntType, BoolType, StructType, ArrayType, ParamTypes, NoneTaken, Taken, meant, option_meant, params_meant, params_of, fun_type}
+use Rattle.hv_type_rules.specs.Typing.{Known, Unknown, Nothing, Is, Wanted, Signature, NoSignature, Signed, wanted_params, wanted_field}
 use Rattle.hv_scope.specs.Known.{typed}
 use Rattle.hv_typing.specs.declared.types.Base.{Base}
 use Rattle.hv_typing.specs.declared.types.Base.TheVariants as base

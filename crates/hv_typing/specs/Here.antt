@@ -10,11 +10,11 @@ use Rattle.hv_tree.specs.declared.ast.PlaceExpr.{PlaceExpr}
 use Rattle.hv_tree.specs.declared.ast.Step.{Step}
 use Rattle.hv_tree.specs.declared.ast.Stmt.{Stmt}
 use Rattle.hv_tree.specs.Core.{Core, core_tree, core_option_ty, core_of, core_place, CoreSteps, NoSteps, core_step, core_steps}
-use Rattle.hv_rules.specs.Types.{ValueType}
-use Rattle.hv_rules.specs.Locals.{LocalKind, Local, local_in}
-use Rattle.hv_rules.specs.Sites.{Scope}
-use Rattle.hv_rules.specs.Typing as typing
-use Rattle.hv_rules.specs.Typing.{Known, Signature, type_of}
+use Rattle.hv_decls.specs.Types.{ValueType}
+use Rattle.hv_decls.specs.Locals.{LocalKind, Local, local_in}
+use Rattle.hv_decls.specs.Sites.{Scope}
+use Rattle.hv_type_rules.specs.Typing as typing
+use Rattle.hv_type_rules.specs.Typing.{Known, Signature, type_of}
 use Rattle.hv_scope.specs.declared.known.Kind.{Kind}
 use Rattle.hv_scope.specs.Known as scopes
 use Rattle.hv_typing.specs.declared.around.Around.{Around}

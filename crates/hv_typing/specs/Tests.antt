@@ -6,9 +6,9 @@ use Rattle.hv_tree.specs.declared.types.Conv.{Conv}
 use Rattle.hv_tree.specs.declared.types.Conv.TheVariants as conv
 use Rattle.hv_tree.specs.declared.ast.Operator.{Operator}
 use Rattle.hv_tree.specs.Core.{Core, CoreSteps, NoSteps, FieldStep, IndexStep}
-use Rattle.hv_rules.specs.Types.{ValueType, IntType, BoolType, StructType, ArrayType, FunType, FunToType, ParamTypes, NoneTaken, Taken, struct_in, field_of, element_of}
-use Rattle.hv_rules.specs.Locals.{LocalKind, Captured, Passed, VarBound, LetBound, InoutBound, Handle, Local}
-use Rattle.hv_rules.specs.Typing.{Known, Unknown, Nothing, Is, operand_type, Signature, NoSignature, Signed}
+use Rattle.hv_decls.specs.Types.{ValueType, IntType, BoolType, StructType, ArrayType, FunType, FunToType, ParamTypes, NoneTaken, Taken, struct_in, field_of, element_of}
+use Rattle.hv_decls.specs.Locals.{LocalKind, Captured, Passed, VarBound, LetBound, InoutBound, Handle, Local}
+use Rattle.hv_type_rules.specs.Typing.{Known, Unknown, Nothing, Is, operand_type, Signature, NoSignature, Signed}
 use Rattle.hv_texts.specs.Texts.{has}
 
 -- ---- equality of types

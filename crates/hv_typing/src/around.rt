@@ -2,7 +2,7 @@
 ghost use Rattle.std.specs.Prelude.{◌≡◌};
 ghost use Rattle.std.specs.Option.{option_copied};
 ghost use Rattle.hv_tree.specs.Core.{core_place};
-ghost use Rattle.hv_rules.specs.Locals.{value_of};
+ghost use Rattle.hv_decls.specs.Locals.{value_of};
 ghost use Rattle.hv_scope.specs.Known.{option_local, typed};
 ghost use Rattle.hv_typing.specs.Tests as tests;
 ghost use Rattle.hv_typing.specs.Here as here;

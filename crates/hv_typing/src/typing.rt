@@ -1,8 +1,8 @@
 // What is known of the type of an expression, and of a callee.
 ghost use Rattle.std.specs.Prelude.{◌≡◌, IfOk, Some};
 ghost use Rattle.hv_tree.specs.Core.{core_place, NoSteps};
-ghost use Rattle.hv_rules.specs.Types.{fun_in, struct_in};
-ghost use Rattle.hv_rules.specs.Typing as typing;
+ghost use Rattle.hv_decls.specs.Types.{fun_in, struct_in};
+ghost use Rattle.hv_type_rules.specs.Typing as typing;
 ghost use Rattle.hv_typing.specs.Held.{base_by, known_by, option_base, option_ty_by, signature_by, ty_by, wanted_next, wants_by};
 ghost use Rattle.hv_typing.specs.Here as here;
 

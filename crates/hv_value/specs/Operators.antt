@@ -1,5 +1,7 @@
 -- What operations give, or how they trap.
-use Rattle.std.specs.Prelude.{ℕ, zero, suc, ◌^◌, Bool, not, if◌then◌else◌, nat_lt, nat_le, ℤ, pos, negsuc, ◌+ℤ◌, ◌-ℤ◌, ◌*ℤ◌, neg_ℤ, int_lt, int_le, int_div, int_rem, Option, Some, None}
+use Rattle.std.specs.Prelude.{ℕ, zero, suc, ◌^◌, Bool, not, if◌then◌else◌, nat_lt, nat_le, ℤ, pos, negsuc, ◌+ℤ◌, ◌-ℤ◌, ◌*ℤ◌, neg_ℤ, int_lt, int_le, int_div, int_rem, Option, Some, None, false}
+use Rattle.hv_tree.specs.declared.ast.Operator.{Operator}
+use Rattle.hv_tree.specs.declared.ast.Operator.TheVariants as operator
 use Rattle.hv_value.specs.ValueTree.{ValueTree, Number, Truth, Elements, Parts, Nil, Cons}
 use Rattle.hv_value.specs.Equality.{same}
 
@@ -103,3 +105,32 @@ count (Cons t ts) = suc (count ts)
 abbrev pub length_of : ValueTree → Option ℕ
 length_of (Elements ts) = Some (count ts)
 length_of _ = None
+
+-- ---- operators
+
+abbrev pub binary : Operator → ValueTree → ValueTree → Option Given
+binary operator.Add v w = of_numbers add v w
+binary operator.Sub v w = of_numbers subtract v w
+binary operator.Mul v w = of_numbers multiply v w
+binary operator.Div v w = of_numbers divide v w
+binary operator.Rem v w = of_numbers remainder v w
+binary operator.Eq v w = Some (equal v w)
+binary operator.Ne v w = Some (unequal v w)
+binary operator.Lt v w = of_numbers less v w
+binary operator.Le v w = of_numbers at_most v w
+binary operator.Gt v w = of_numbers greater v w
+binary operator.Ge v w = of_numbers at_least v w
+binary operator.And (Truth a) (Truth b) = Some (Gives (Truth b))
+binary operator.Or (Truth a) (Truth b) = Some (Gives (Truth b))
+binary _ v w = None
+
+abbrev pub unary : Operator → ValueTree → Option Given
+unary operator.Neg v = of_number negate v
+unary operator.Not v = of_truth opposite v
+unary _ v = None
+
+-- `&&` and `||` stop at the operand that decides
+abbrev pub decides : Operator → ValueTree → Bool
+decides operator.And (Truth b) = not b
+decides operator.Or (Truth b) = b
+decides _ v = false

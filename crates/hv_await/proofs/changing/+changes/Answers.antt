@@ -1,7 +1,7 @@
 use Rattle.std.proofs.Common.{◌≡◌, ◌+◌, ◌++◌, drop, length, map, refl, sym, ap, ◌∙◌, arith}
 use Rattle.std.proofs.lemmas.Grind.{common_steps}
 use Rattle.hv_tree.specs.Core.{core_stmt, core_tree}
-use Rattle.hv_rules.specs.Locals.{binds, listed}
+use Rattle.hv_decls.specs.Locals.{binds, listed}
 use Rattle.hv_scope.specs.Known.{local_by}
 use Rattle.hv_scope.specs.Oldest.{oldest}
 use Rattle.hv_lemmas.proofs.Lists.{extended, nothing_added}

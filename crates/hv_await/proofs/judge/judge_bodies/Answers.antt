@@ -1,6 +1,6 @@
 use Rattle.std.proofs.Common.{◌+◌, List, map, drop, sym, ap, subst}
 use Rattle.hv_tree.specs.Core.{core_tree}
-use Rattle.hv_rules.specs.Locals.{CoreBody}
+use Rattle.hv_decls.specs.Locals.{CoreBody}
 use Rattle.hv_scope.specs.Bodies.{body_by}
 use Rattle.std.proofs.Math.ListN.{drop_of_length-le}
 use Rattle.hv_lemmas.proofs.Lists.{first_left}

@@ -2,7 +2,7 @@ use Rattle.std.proofs.Common.{◌≡◌, Contains, drop, ap, ◌∙◌}
 use Rattle.std.proofs.lemmas.Result.{on_ok_weaker}
 use Rattle.hv_tree.specs.declared.refusal.Rule.TheVariants as rule
 use Rattle.hv_tree.specs.Core.{core_tree}
-use Rattle.hv_rules.specs.Locals.{listed}
+use Rattle.hv_decls.specs.Locals.{listed}
 use Rattle.hv_scope.specs.Bodies.{body_by}
 use Rattle.hv_await.specs.Changing.{body_changes}
 use Rattle.hv_await.specs.Found.{InBody}

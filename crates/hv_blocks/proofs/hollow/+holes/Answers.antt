@@ -1,7 +1,7 @@
 use Rattle.std.proofs.Common.{◌≡◌, ◌-◌, ◌<◌, map, Some, None, sym, ap, ◌∙◌, arith, rules}
 use Rattle.std.specs.Option.{option_copied}
 use Rattle.hv_tree.specs.Core.{core_tree}
-use Rattle.hv_rules.specs.Types.{struct_in}
+use Rattle.hv_decls.specs.Types.{struct_in}
 use Rattle.hv_value.specs.Holes.{fields_or_hole}
 use Rattle.hv_value.specs.ValueTree.{row}
 use Rattle.hv_held.specs.HeldTree.{held_tree}

@@ -1,5 +1,5 @@
 use Rattle.std.proofs.Common.{rules, length, map, arith}
-use Rattle.hv_rules.specs.Locals.{locals_of}
+use Rattle.hv_decls.specs.Locals.{locals_of}
 use Rattle.hv_calls.specs.Passes.{passed_by}
 use Rattle.hv_calls.proofs.EnterLemmas.{enters, not_paid, too_deep}
 use Rattle.hv_calls.proofs.bodies.enter.Goals as goal

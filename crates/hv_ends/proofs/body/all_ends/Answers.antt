@@ -1,6 +1,6 @@
 use Rattle.std.proofs.Common.{List, ◌++◌, Bool, length, map, refl, ap, ◌∙◌}
 use Rattle.hv_tree.specs.Core.{core_param}
-use Rattle.hv_rules.specs.Locals.{param_local}
+use Rattle.hv_decls.specs.Locals.{param_local}
 use Rattle.hv_scope.specs.Bodies.{body_by}
 use Rattle.hv_scope.specs.Known.{local_by}
 use Rattle.hv_ends.specs.declared.span.Span.{Span}

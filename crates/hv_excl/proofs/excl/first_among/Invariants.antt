@@ -1,6 +1,6 @@
 use Rattle.std.proofs.Common.{take}
 use Rattle.hv_tree.specs.Core.{Core}
-use Rattle.hv_rules.specs.Earlier.{IsFirst}
+use Rattle.hv_tree.specs.Earlier.{IsFirst}
 use Rattle.hv_excl.specs.Violations.{ArePlanned, IsViolatedAmong}
 use Rattle.hv_excl.proofs.excl.first_among.Given as goal
 

@@ -1,8 +1,8 @@
 use Rattle.std.proofs.Common.{List, map, subst, ap}
 use Rattle.std.proofs.lemmas.List.{take_all}
 use Rattle.hv_tree.specs.Core.{core_tree}
-use Rattle.hv_rules.specs.Earlier.{IsFirst}
-use Rattle.hv_rules.specs.Locals.{CoreBody}
+use Rattle.hv_tree.specs.Earlier.{IsFirst}
+use Rattle.hv_decls.specs.Locals.{CoreBody}
 use Rattle.hv_scope.specs.Bodies.{body_by}
 use Rattle.hv_init_law.specs.Law.{IsViolatedAmong}
 use Rattle.hv_init.proofs.Bodies.{turn}

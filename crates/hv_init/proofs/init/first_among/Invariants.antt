@@ -1,6 +1,6 @@
 use Rattle.std.proofs.Common.{map, take}
 use Rattle.hv_tree.specs.Core.{core_tree}
-use Rattle.hv_rules.specs.Earlier.{IsFirst}
+use Rattle.hv_tree.specs.Earlier.{IsFirst}
 use Rattle.hv_scope.specs.Bodies.{body_by}
 use Rattle.hv_leaves.specs.Leaves.{AreSizesOf}
 use Rattle.hv_init_law.specs.Law.{IsViolatedAmong}

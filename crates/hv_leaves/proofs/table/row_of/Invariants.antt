@@ -1,6 +1,6 @@
 use Rattle.std.proofs.Common.{◌≡◌, ◌++◌, map, drop}
 use Rattle.hv_tree.specs.Core.{core_tree, core_field}
-use Rattle.hv_rules.specs.Types.{type_of_field}
+use Rattle.hv_decls.specs.Types.{type_of_field}
 use Rattle.hv_leaves.specs.Table as spec
 use Rattle.hv_leaves.proofs.table.row_of.Given as goal
 

@@ -1,5 +1,5 @@
 use Rattle.std.proofs.Common.{◌≡◌, rules, false, drop, ◌+◌}
-use Rattle.hv_copying.specs.Operations.{decides}
+use Rattle.hv_value.specs.Operators.{decides}
 use Rattle.hv_held.specs.HeldTree.{held_tree}
 use Rattle.hv_operands.specs.Operands.{chained_in, operated}
 use Rattle.hv_operands.proofs.OperandLemmas.{chain_next}

@@ -1,5 +1,6 @@
 use Rattle.std.proofs.Common.{refl}
-use Rattle.hv_copying.specs.Operations.{applied, binary}
+use Rattle.hv_copying.specs.Operations.{applied}
+use Rattle.hv_value.specs.Operators.{binary}
 use Rattle.hv_held.specs.HeldTree.{held_tree}
 use Rattle.hv_level.specs.Level.{value_in}
 use Rattle.hv_operands.specs.Operands.{operated}

@@ -1,6 +1,6 @@
 use Rattle.std.proofs.Common.{◌≡◌, ◌++◌, map, refl, ap, ◌∙◌}
 use Rattle.hv_tree.specs.Core.{core_param, core_tree}
-use Rattle.hv_rules.specs.Locals.{entry_locals, param_local}
+use Rattle.hv_decls.specs.Locals.{entry_locals, param_local}
 use Rattle.hv_scope.specs.Bodies.{body_by}
 use Rattle.hv_scope.specs.Known.{local_by}
 use Rattle.hv_plan.proofs.BodyLemmas.{body_same, ok_same}

@@ -1,6 +1,6 @@
 use Rattle.std.proofs.Common.{◌≡◌, ◌++◌, map, drop}
 use Rattle.hv_tree.specs.Core.{core_decl}
-use Rattle.hv_rules.specs.Sites.{decl_bodies}
+use Rattle.hv_decls.specs.Sites.{decl_bodies}
 use Rattle.hv_scope.specs.Bodies.{body_by}
 use Rattle.hv_scope.proofs.bodies.add_decls.Given as goal
 

@@ -1,5 +1,5 @@
 use Rattle.std.proofs.Common.{◌≡◌, ◌++◌, map, drop}
-use Rattle.hv_rules.specs.Sites.{capture_local}
+use Rattle.hv_decls.specs.Sites.{capture_local}
 use Rattle.hv_scope.specs.Known.{local_by}
 use Rattle.hv_scope.proofs.bound.captures_of.Given as goal
 

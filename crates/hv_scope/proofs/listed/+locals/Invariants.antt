@@ -1,6 +1,6 @@
 use Rattle.std.proofs.Common.{◌≡◌, ◌++◌, map, drop}
 use Rattle.hv_tree.specs.Core.{core_stmts}
-use Rattle.hv_rules.specs.Locals.{in_stmts}
+use Rattle.hv_decls.specs.Locals.{in_stmts}
 use Rattle.hv_scope.specs.Known.{local_by}
 use Rattle.hv_scope.specs.Blocks.{tests_declare}
 use Rattle.hv_scope.proofs.listed.+locals.Given as goal

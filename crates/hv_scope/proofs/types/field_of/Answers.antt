@@ -1,6 +1,6 @@
 use Rattle.std.proofs.Common.{sym, ap, ◌∙◌}
 use Rattle.hv_tree.specs.Core.{core_tree}
-use Rattle.hv_rules.specs.Types.{field_from, fields_or_none, struct_in}
+use Rattle.hv_decls.specs.Types.{field_from, fields_or_none, struct_in}
 use Rattle.hv_scope.proofs.TypeLemmas.{field_named}
 use Rattle.hv_scope.proofs.types.field_of.Goals as goal
 

@@ -2,7 +2,7 @@ use Rattle.std.proofs.lemmas.Result.{on_ok_weaker}
 use Rattle.std.proofs.Common.{refl, ◌≡◌, ◌++◌, map, length, drop, ap, sym, ◌∙◌, ◌+◌}
 use Rattle.hv_scope.proofs.OldestLemmas.{oldest_twice, oldest_same}
 use Rattle.hv_tree.specs.Core.{core_stmt}
-use Rattle.hv_rules.specs.Locals.{binds, listed}
+use Rattle.hv_decls.specs.Locals.{binds, listed}
 use Rattle.hv_scope.specs.Oldest.{oldest}
 use Rattle.hv_scope.specs.Known.{local_by}
 use Rattle.hv_lemmas.proofs.Lists.{extended, three}

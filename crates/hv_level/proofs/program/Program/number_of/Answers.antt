@@ -1,6 +1,5 @@
 use Rattle.std.proofs.Common.{ap, ◌∙◌}
-use Rattle.hv_tree.specs.Core.{core_block}
-use Rattle.hv_rules.specs.Events.{end_of}
+use Rattle.hv_tree.specs.Core.{core_block, end_of}
 use Rattle.hv_level.specs.Firsts.{first_place}
 use Rattle.hv_level.proofs.PlaceLemmas.{number_at}
 use Rattle.hv_level.proofs.program.Program.number_of.Goals as goal

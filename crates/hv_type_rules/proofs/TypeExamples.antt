@@ -6,11 +6,11 @@ use Rattle.hv_tree.specs.declared.types.Conv.TheVariants as conv
 use Rattle.hv_tree.specs.declared.refusal.Rule.{Rule}
 use Rattle.hv_tree.specs.declared.refusal.Rule.TheVariants as rule
 use Rattle.hv_tree.specs.Core.{Core, StructOf, FunOf, CoreFun, CoreStruct, CoreTy, NamedTy, FunTy, NoTys, VarWith, Print, Assign, CallsAlone, CoreExpr, Truth, Path, CoreSteps, NoSteps, FieldStep, CoreCall, CallOf, CoreArgs, NoArgs, ValueArg, RefArg}
-use Rattle.hv_rules.specs.Types.{ValueType, IntType, NoneTaken}
-use Rattle.hv_rules.specs.Locals.{fun_body}
-use Rattle.hv_rules.specs.Sites.{Part, ExprPart, CallPart, PlacePart, StmtPart, sites_of, body_scope}
-use Rattle.hv_rules.specs.TypeRules.{ViolatesType, IsViolatedByTypes, at_part, at_struct, TooGreat, HoldsFunction, is_fun, is_fun_to, in_element, in_field}
-use Rattle.hv_rules.proofs.Programs.{o, at, name, name_at, fun, param, int, num, x, f, alone, two}
+use Rattle.hv_decls.specs.Types.{ValueType, IntType, NoneTaken}
+use Rattle.hv_decls.specs.Locals.{fun_body}
+use Rattle.hv_decls.specs.Sites.{Part, ExprPart, CallPart, PlacePart, StmtPart, sites_of, body_scope}
+use Rattle.hv_type_rules.specs.TypeRules.{ViolatesType, IsViolatedByTypes, at_part, at_struct, TooGreat, HoldsFunction, is_fun, is_fun_to, in_element, in_field}
+use Rattle.hv_decls.proofs.Programs.{o, at, name, name_at, fun, param, int, num, x, f, alone, two}
 
 -- a part that stands in the function's own block and violates the rule
 violated : (tree : Core) (g : CoreFun) (r : Rule) (place : Place) (part : Part) → Contains (sites_of tree) (record { scope = body_scope (fun_body g); part = part }) →

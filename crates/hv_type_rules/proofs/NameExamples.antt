@@ -5,10 +5,10 @@ use Rattle.hv_tree.specs.declared.place.Place.{Place}
 use Rattle.hv_tree.specs.declared.types.Name.{Name}
 use Rattle.hv_tree.specs.declared.types.Conv.TheVariants as conv
 use Rattle.hv_tree.specs.Core.{Core, FunOf, CoreFun, CoreStmt, VarWith, Print, Path, NoSteps}
-use Rattle.hv_rules.specs.Locals.{VarBound, fun_body, local}
-use Rattle.hv_rules.specs.Sites.{PlacePart, body_scope}
-use Rattle.hv_rules.specs.Names.{Named, Repeats, ViolatesN1, top_level, shared, NothingVisible, ViolatesN2, as_used, ViolatesN3, HasMain}
-use Rattle.hv_rules.proofs.Programs.{o, at, name, name_at, fun, num, int, x, f, param, alone}
+use Rattle.hv_decls.specs.Locals.{VarBound, fun_body, local}
+use Rattle.hv_decls.specs.Sites.{PlacePart, body_scope}
+use Rattle.hv_type_rules.specs.Names.{Named, Repeats, ViolatesN1, top_level, shared, NothingVisible, ViolatesN2, as_used, ViolatesN3, HasMain}
+use Rattle.hv_decls.proofs.Programs.{o, at, name, name_at, fun, num, int, x, f, param, alone}
 
 -- ---- N1
 

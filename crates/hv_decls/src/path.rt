@@ -1,5 +1,5 @@
 ghost use Rattle.std.specs.Prelude.{◌≡◌, ◌↔◌, IsTrue};
-ghost use Rattle.hv_rules.specs.Paths.{compatible, steps_meet, Overlap};
+ghost use Rattle.hv_decls.specs.Paths.{compatible, steps_meet, Overlap};
 
 use hv_items::Items;
 

@@ -5,9 +5,9 @@ use Rattle.hv_tree.specs.declared.types.Conv.{Conv}
 use Rattle.hv_tree.specs.declared.ast.Operator.{Operator}
 use Rattle.hv_tree.specs.declared.ast.Operator.TheVariants as operator
 use Rattle.hv_tree.specs.Core.{Core, CoreFun, CoreStruct, CoreField, CoreExpr, Number, Truth, Path, Calls, Awaits, Array, Filled, Count, Lambda, Prefix, Chain, CoreExprs, NoExprs, ExprOf, CoreLinks, NoLinks, LinkOf, CoreSteps, NoSteps, FieldStep, IndexStep, CoreCall, CallOf}
-use Rattle.hv_rules.specs.Types.{ValueType, IntType, BoolType, StructType, ArrayType, FunType, FunToType, ParamTypes, NoneTaken, Taken, meant, option_meant, params_of, fun_type, struct_in, fun_in}
-use Rattle.hv_rules.specs.Locals.{LocalKind, Captured, Passed, VarBound, LetBound, InoutBound, Handle, Local, local_in, value_by, value_of}
-use Rattle.hv_rules.specs.Events.{type_behind}
+use Rattle.hv_decls.specs.Types.{ValueType, IntType, BoolType, StructType, ArrayType, FunType, FunToType, ParamTypes, NoneTaken, Taken, meant, option_meant, params_of, fun_type, struct_in, fun_in}
+use Rattle.hv_decls.specs.Locals.{LocalKind, Captured, Passed, VarBound, LetBound, InoutBound, Handle, Local, local_in, value_by, value_of}
+use Rattle.hv_decls.specs.Statics.{type_behind}
 
 -- ---- what is known of a type
 

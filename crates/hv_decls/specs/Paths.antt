@@ -1,8 +1,8 @@
 -- When two static paths overlap.
 use Rattle.std.specs.Prelude.{◌≡◌, ◌⊎◌, ◌==◌, ℤ, pos, negsuc, Bool, true, false, ◌&&◌, List, [], ◌∷◌}
-use Rattle.hv_rules.specs.declared.path.StaticStep.{StaticStep}
-use Rattle.hv_rules.specs.declared.path.StaticStep.TheVariants as step
-use Rattle.hv_rules.specs.declared.path.StaticPath.{StaticPath}
+use Rattle.hv_decls.specs.declared.path.StaticStep.{StaticStep}
+use Rattle.hv_decls.specs.declared.path.StaticStep.TheVariants as step
+use Rattle.hv_decls.specs.declared.path.StaticPath.{StaticPath}
 
 -- ---- the relation
 

@@ -8,11 +8,11 @@ use Rattle.hv_tree.specs.declared.refusal.Rule.{Rule}
 use Rattle.hv_tree.specs.declared.refusal.Rule.TheVariants as rule
 use Rattle.hv_tree.specs.declared.ast.Operator.{Operator}
 use Rattle.hv_tree.specs.Core.{Core, StructOf, CoreStruct, CoreTy, CoreExpr, Number, Truth, Path, Calls, Awaits, Array, Filled, Count, Lambda, Prefix, Chain, CoreExprs, NoExprs, ExprOf, CoreLinks, NoLinks, LinkOf, CoreSteps, NoSteps, FieldStep, IndexStep, CoreCall, CallOf, CoreArgs, NoArgs, ValueArg, RefArg, CoreStmt, VarWith, Let, Inout, Assign, Return, ReturnWith, Print, Task, AwaitsAlone}
-use Rattle.hv_rules.specs.Types.{ValueType, IntType, BoolType, StructType, ArrayType, FunType, FunToType, ParamTypes, meant, option_meant, struct_in, field_types, field_of, element_of, within, leaves_of, most_depth, most_leaves}
-use Rattle.hv_rules.specs.Locals.{LocalKind, Captured, Passed, VarBound, LetBound, InoutBound, Handle, Local, local_in, value_of}
-use Rattle.hv_rules.specs.Sites.{Part, ExprPart, CallPart, PlacePart, StmtPart, TestPart, Scope, Site, sites_of}
-use Rattle.hv_rules.specs.Events.{field_at, element_at, type_at}
-use Rattle.hv_rules.specs.Typing.{Known, Unknown, Nothing, Is, known, or_nothing, operand_type, Wanted, Signature, NoSignature, Signed, signature_of, place_type, type_of, first_type}
+use Rattle.hv_decls.specs.Types.{ValueType, IntType, BoolType, StructType, ArrayType, FunType, FunToType, ParamTypes, meant, option_meant, struct_in, field_types, field_of, element_of, within, leaves_of, most_depth, most_leaves}
+use Rattle.hv_decls.specs.Locals.{LocalKind, Captured, Passed, VarBound, LetBound, InoutBound, Handle, Local, local_in, value_of}
+use Rattle.hv_decls.specs.Sites.{Part, ExprPart, CallPart, PlacePart, StmtPart, TestPart, Scope, Site, sites_of}
+use Rattle.hv_decls.specs.Statics.{field_at, element_at, type_at}
+use Rattle.hv_type_rules.specs.Typing.{Known, Unknown, Nothing, Is, known, or_nothing, operand_type, Wanted, Signature, NoSignature, Signed, signature_of, place_type, type_of, first_type}
 
 -- the place of an expression's first token
 abbrev pub expr_place : CoreExpr → Place

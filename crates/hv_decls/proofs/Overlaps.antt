@@ -1,9 +1,9 @@
 -- The test of two paths says whether they overlap.
 use Rattle.std.proofs.Common.{◌≡◌, ◌⊎◌, inl, inr, ℤ, pos, negsuc, Bool, true, false, ◌&&◌, List, [], ◌∷◌, refl, sym, ap}
 use Rattle.std.proofs.lemmas.Bool.{eq-eqb, eqb-true}
-use Rattle.hv_rules.specs.declared.path.StaticStep.{StaticStep}
-use Rattle.hv_rules.specs.declared.path.StaticStep.TheVariants as step
-use Rattle.hv_rules.specs.Paths.{Compatible, IsPrefix, same_int, compatible, steps_meet}
+use Rattle.hv_decls.specs.declared.path.StaticStep.{StaticStep}
+use Rattle.hv_decls.specs.declared.path.StaticStep.TheVariants as step
+use Rattle.hv_decls.specs.Paths.{Compatible, IsPrefix, same_int, compatible, steps_meet}
 
 -- ---- one step
 

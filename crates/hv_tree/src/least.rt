@@ -1,9 +1,8 @@
 // The first of refusals.
 ghost use Rattle.std.specs.Prelude.{Contains};
-ghost use Rattle.hv_rules.specs.Earlier.{IsFirst};
+ghost use Rattle.hv_tree.specs.Earlier.{IsFirst};
 
-use hv_rules::earlier;
-use hv_tree::Refusal;
+use crate::{Refusal, earlier};
 
 /// The first of these, or none where there is none.
 pub fn first(found: &[Refusal]) -> Option<Refusal>

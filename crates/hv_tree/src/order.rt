@@ -1,6 +1,6 @@
-ghost use Rattle.hv_rules.specs.Earlier.{IsEarlier};
+ghost use Rattle.hv_tree.specs.Earlier.{IsEarlier};
 
-use hv_tree::Refusal;
+use crate::Refusal;
 
 /// The one with the lesser place, at one place the one with the lesser rule.
 pub fn earlier(a: Option<Refusal>, b: Option<Refusal>) -> Option<Refusal>

@@ -1,6 +1,6 @@
 use Rattle.std.proofs.Common.{◌≡◌, length}
-use Rattle.hv_rules.specs.Paths.{steps_meet}
-use Rattle.hv_rules.proofs.path.steps_meet.Given as goal
+use Rattle.hv_decls.specs.Paths.{steps_meet}
+use Rattle.hv_decls.proofs.path.steps_meet.Given as goal
 
 abbrev pub invariant-loop-left : goal.invariant-loop-left
 invariant-loop-left l = steps_meet l.a l.b ≡ steps_meet l.left l.right

@@ -5,9 +5,9 @@ use Rattle.hv_tree.specs.declared.types.Name.{Name}
 use Rattle.hv_tree.specs.declared.refusal.Rule.{Rule}
 use Rattle.hv_tree.specs.declared.refusal.Rule.TheVariants as rule
 use Rattle.hv_tree.specs.Core.{Core, CoreDecl, StructOf, FunOf, CoreFun, CoreStruct, CoreField, CoreParam, CoreTy, IntTy, BoolTy, NamedTy, ArrayTy, FunTy, FunToTy, CoreTys, NoTys, TyOf, CoreExpr, Awaits, Lambda, CoreStmt, Var, VarWith, Let, Inout, Task, AwaitsAlone}
-use Rattle.hv_rules.specs.Types.{struct_in}
-use Rattle.hv_rules.specs.Locals.{Local, Captured, listed, CoreBody, locals_of, local_in}
-use Rattle.hv_rules.specs.Sites.{Part, ExprPart, CallPart, PlacePart, StmtPart, TestPart, Site, sites_of, decl_bodies, bodies_of}
+use Rattle.hv_decls.specs.Types.{struct_in}
+use Rattle.hv_decls.specs.Locals.{Local, Captured, listed, CoreBody, locals_of, local_in}
+use Rattle.hv_decls.specs.Sites.{Part, ExprPart, CallPart, PlacePart, StmtPart, TestPart, Site, sites_of, decl_bodies, bodies_of}
 
 -- ---- declared twice
 

@@ -1,0 +1,6 @@
+//! What is declared, who sees it, and static places: types, locals, where each part of a program stands.
+#![tactic(auto)]
+
+mod path;
+
+pub use path::{StaticPath, StaticStep, overlap};

@@ -1,0 +1,3 @@
+-- examples
+mod NameExamples
+mod TypeExamples
