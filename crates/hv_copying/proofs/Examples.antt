@@ -6,8 +6,7 @@ use Rattle.hv_value.specs.ValueTree as tree
 use Rattle.hv_copying.specs.declared.end.TrapKind.TheVariants as trap_kind
 use Rattle.hv_copying.specs.Node.{Trapped, SpentAt, Id}
 use Rattle.hv_copying.specs.Run.{and_then, mine, become, pure, trap, pay, say, counted_from}
-use Rattle.hv_copying.specs.Meaning.{IsSafe, node_of}
-use Rattle.hv_copying.proofs.Sums.{sums_safe}
+use Rattle.hv_copying.specs.Meaning.{node_of}
 use Rattle.hv_copying.proofs.Programs.{at, o, block, main, program, ints, num, between, exprs, root, done, line, and_line, a, at_index}
 
 abbrev number : ℕ → tree.ValueTree
@@ -25,10 +24,6 @@ sum = program (main (Print (at 13) (between (num 1) operator.Add 21 (num 2)) ∷
 sum_printed : node_of sum 10 ≡ Some (root 1 done (line (number 3)))
 unfolding node_of and_then mine become pure pay say counted_from
 sum_printed = refl
-
--- no budget leads to where there is no rule
-sum_safe : IsSafe sum
-sum_safe = sums_safe sum refl
 
 -- nothing is paid where less is left
 sum_spent : node_of sum 0 ≡ Some (root 0 (SpentAt (at 13) here) [])

@@ -15,7 +15,4 @@ pub mod Meaning
 pub mod Alike
 pub mod Laws
 -- blocks as a loop goes through them
-pub mod InOrder
-pub mod ArgsInOrder
 -- programs that are safe as they stand
-pub mod Sums

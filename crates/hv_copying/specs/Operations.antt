@@ -1,10 +1,8 @@
 -- What an operator gives or how it traps, and values of the kind that is asked for.
-use Rattle.std.specs.Prelude.{ℕ, ℤ, pos, negsuc, Bool, false, not, Option, Some, None}
+use Rattle.std.specs.Prelude.{ℕ, ℤ, pos, negsuc, Bool, Option}
 use Rattle.hv_tree.specs.declared.place.Place.{Place}
-use Rattle.hv_tree.specs.declared.ast.Operator.{Operator}
-use Rattle.hv_tree.specs.declared.ast.Operator.TheVariants as operator
 use Rattle.hv_value.specs.ValueTree.{ValueTree, Number, Truth}
-use Rattle.hv_value.specs.Operators.{Given, Gives, Overflow, DivZero, BadLength, TooLong, of_numbers, of_number, of_truth, add, subtract, multiply, divide, remainder, negate, equal, unequal, less, at_most, greater, at_least, opposite, filled}
+use Rattle.hv_value.specs.Operators.{Given, Gives, Overflow, DivZero, BadLength, TooLong, filled}
 use Rattle.hv_value.specs.Sizes.{fill_cost}
 use Rattle.hv_copying.specs.declared.end.TrapKind.TheVariants as trap_kind
 use Rattle.hv_copying.specs.declared.end.Cause.TheVariants.{Kinds}

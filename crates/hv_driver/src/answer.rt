@@ -8,7 +8,7 @@ ghost use Rattle.hv_driver.specs.Answer.{Answers, status_of, run_of};
 
 use crate::Status;
 use hv_check::{CheckEnd, check};
-use hv_checked_laws::accepted_programs_are_safe;
+use hv_law_checked::accepted_programs_are_safe;
 use hv_node::End;
 use hv_plain::plain;
 use hv_print::print;

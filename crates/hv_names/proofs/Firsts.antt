@@ -1,18 +1,17 @@
 -- The first of what is found is the first violation.
-use Rattle.std.proofs.Common.{◌≡◌, ◌⊎◌, inl, inr, ◌+◌, ◌<◌, ◌≤◌, ℕ, zero, suc, List, [], ◌∷◌, ◌++◌, length, take, get_or, Option, Some, None, Contains, refl, sym, ap, ◌∙◌, arith}
-use Rattle.std.proofs.lemmas.List.{take_more}
+use Rattle.std.proofs.Common.{◌≡◌, ◌⊎◌, inl, inr, ◌+◌, ◌<◌, ◌≤◌, List, [], ◌∷◌, ◌++◌, Option, Some, None, Contains, refl, sym, ◌∙◌}
 use Rattle.hv_tree.specs.declared.place.Place.{Place}
 use Rattle.hv_tree.specs.declared.refusal.Rule.{Rule}
 use Rattle.hv_tree.specs.declared.refusal.Rule.TheVariants as rule
 use Rattle.hv_tree.specs.declared.refusal.Refusal.{Refusal}
 use Rattle.hv_tree.specs.Core.{Core, CoreDecl}
-use Rattle.hv_tree.specs.Earlier.{NotAfter, IsEarlier, IsFirst}
+use Rattle.hv_tree.specs.Earlier.{NotAfter, IsFirst}
 use Rattle.hv_type_rules.specs.Names.{IsViolatedByNames}
 use Rattle.hv_type_rules.specs.TypeRules.{IsViolatedByTypes, at_part, at_struct}
 use Rattle.hv_rules.specs.Rules.{IsViolatedByEvents, in_body, at_task}
 use Rattle.hv_rules.specs.Accepted.{NamePhase, phase_of, IsViolated, IsViolatedInPhase, IsFirstOf}
 use Rattle.hv_names.specs.Found as spec
-use Rattle.hv_lemmas.proofs.Members.{Among, in_left, in_right, either_in, listed, contained}
+use Rattle.hv_lemmas.proofs.Members.{listed, contained}
 use Rattle.hv_names.proofs.Soundness.{tree_of, Wrong, n1, n2, n3, all_sound}
 use Rattle.hv_names.proofs.Wholeness.{Covered, all_whole}
 

@@ -1,11 +1,5 @@
--- lists by cases
 -- parts, locals and bodies
 pub mod SitesTell
--- runs
-pub mod Tells
-pub mod PartsTell
-pub mod TreesTell
-pub mod NodesTell
 -- violations
 pub mod TypesTell
 pub mod NamesTell
@@ -16,5 +10,3 @@ pub mod TreesSay
 -- where bodies end
 pub mod Counted
 pub mod EndsFit
--- examples
-mod Examples

@@ -1,5 +1,4 @@
--- the places of a tree, and those of a task's node
+-- the places of a tree
 pub mod Places
-pub mod NodePlaces
 pub mod TokenPlaces
 pub mod Ends

@@ -1,5 +1,5 @@
-// Laws on the places that runs and refusals name. They do nothing when they are called.
-ghost use Rattle.std.specs.Prelude.{◌≡◌, ◌⊎◌, ℕ, Some, Contains};
+// Laws on the places that refusals name. They do nothing when they are called.
+ghost use Rattle.std.specs.Prelude.{◌≡◌, ◌⊎◌};
 ghost use Rattle.hv_tree.specs.declared.place.Place.{Place};
 ghost use Rattle.hv_tree.specs.declared.refusal.Rule.{Rule};
 ghost use Rattle.hv_tree.specs.declared.refusal.Rule.TheVariants.{N3};
@@ -10,17 +10,9 @@ ghost use Rattle.hv_tree.specs.Core.{Core, core_tree};
 ghost use Rattle.hv_type_rules.specs.Names.{IsViolatedByNames};
 ghost use Rattle.hv_type_rules.specs.TypeRules.{IsViolatedByTypes};
 ghost use Rattle.hv_rules.specs.Rules.{IsViolatedByEvents};
-ghost use Rattle.hv_copying.specs.Node.{Node};
-ghost use Rattle.hv_copying.specs.Meaning.{node_of};
 ghost use Rattle.hv_places.specs.Places.{IsIn};
-ghost use Rattle.hv_places.specs.NodePlaces.{in_node};
 ghost use Rattle.hv_places.specs.TokenPlaces.{IsAmong, Rise};
 ghost use Rattle.hv_places.specs.Ends.{EndApart};
-
-/// Whatever the budget, each place at which the root or a task below it ended stands in the program.
-pub fn nodes_name_places_of_the_tree()
-    ensures { (tree : Core) (budget : ℕ) (node : Node) → node_of tree budget ≡ Some node → (place : Place) → Contains (in_node node) place → IsIn place tree }
-{}
 
 /// Each place at which the program violates a rule of names, types or events stands in the program, or, where `main` lacks, is the beginning.
 pub fn violations_name_places_of_the_tree()

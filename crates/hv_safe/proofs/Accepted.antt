@@ -14,7 +14,7 @@ use Rattle.hv_type_rules.specs.TypeRules.{ViolatesType, IsViolatedByTypes, at_pa
 use Rattle.hv_rules.specs.Accepted.{NamePhase, TypePhase, phase_of, IsFirstOf}
 use Rattle.hv_copying.specs.Places.{body_number}
 use Rattle.hv_lemmas.proofs.Members.{Among, in_left, in_right, either_in, listed, contained}
-use Rattle.hv_safe.specs.Formed.{IsFormed, IsBody}
+use Rattle.hv_law_formed.specs.Formed.{IsFormed, IsBody}
 use Rattle.hv_safe.specs.Runs.{Runs}
 use Rattle.hv_safe.proofs.Lists.{at_among, map_among, Distinct, distinct, numbered, named, local_found, local_lacks, no_number, fun_found, struct_found, fun_lacks, no_decl, same_decl, number_finds}
 

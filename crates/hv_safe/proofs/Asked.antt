@@ -18,9 +18,9 @@ use Rattle.hv_copying.specs.Copying.{Locals}
 use Rattle.hv_copying.specs.Operations.{number, given, applied, filled_with, natural}
 use Rattle.hv_typing.specs.Tests.{same_type}
 use Rattle.hv_judge.proofs.Deciding.{type_decides}
-use Rattle.hv_safe.specs.Formed.{level_of}
+use Rattle.hv_law_formed.specs.Formed.{level_of}
 use Rattle.hv_safe.proofs.Ends.{Does, next, gives, traps, then_pay, then_pure}
-use Rattle.hv_safe.proofs.Fits.{Fits, f_number, f_truth, f_elements, copies_fit, is_number, is_truth}
+use Rattle.hv_law_formed.proofs.Fits.{Fits, f_number, f_truth, f_elements, copies_fit, is_number, is_truth}
 
 -- ---- what positions ask for
 

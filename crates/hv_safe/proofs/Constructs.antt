@@ -27,12 +27,12 @@ use Rattle.hv_copying.specs.Calls.{Deeper, Callee, Constructs, Enters, Placed, r
 use Rattle.hv_copying.specs.Blocks.{bound}
 use Rattle.hv_copying.specs.Copying.{Locals, tree_at, copying}
 use Rattle.hv_lemmas.proofs.Members.{Among}
-use Rattle.hv_safe.specs.Formed.{IsBody}
+use Rattle.hv_law_formed.specs.Formed.{IsBody}
 use Rattle.hv_safe.proofs.Ends.{Does, bind, next, given, before, behind, gives, then_known, then_pay, traps, refers, writes, reads_under, calls}
-use Rattle.hv_safe.proofs.Inside.{Good}
+use Rattle.hv_law_formed.proofs.Inside.{Good}
 use Rattle.hv_safe.proofs.Lists.{get_left, among_at, Distinct, numbered}
-use Rattle.hv_safe.proofs.Fits.{Fits, FitAll, FitLocals, locals_none, locals_more, f_fields, f_number, is_elements}
-use Rattle.hv_safe.proofs.Ways.{LinksFit, l_end, l_field, l_index}
+use Rattle.hv_law_formed.proofs.Fits.{Fits, FitAll, FitLocals, locals_none, locals_more, f_fields, f_number, is_elements}
+use Rattle.hv_law_formed.proofs.Ways.{LinksFit, l_end, l_field, l_index}
 use Rattle.hv_safe.proofs.Asked.{ValueOf, stable, asked, then_number}
 use Rattle.hv_safe.proofs.Accepted.{Accepted, IsLocal, all_distinct}
 use Rattle.hv_safe.proofs.Matches.{Matches, declares, clears, forgets, lends, gives_back, IsPlace, finds_place, PassedFit, enters as enters_with, comes_back}

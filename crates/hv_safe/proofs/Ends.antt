@@ -1,8 +1,9 @@
 -- Runs that aren't stuck: what holds of the state before holds of what they give and the state after.
 use Rattle.std.proofs.Common.{◌≡◌, ℕ, zero, suc, Bool, true, false, nat_le, if◌then◌else◌, List, Option, Some, None, sym, subst}
 use Rattle.hv_tree.specs.declared.place.Place.{Place}
-use Rattle.hv_value.specs.ValueTree.{ValueTree, Truth}
+use Rattle.hv_value.specs.ValueTree.{ValueTree}
 use Rattle.hv_value.specs.Walk.{Reached, Reaches, Outside, Lost, walk}
+use Rattle.hv_law_formed.proofs.Fits.{IsTruth}
 use Rattle.hv_copying.specs.declared.end.TrapKind.{TrapKind}
 use Rattle.hv_copying.specs.declared.end.Cause.{Cause}
 use Rattle.hv_copying.specs.declared.end.Cause.TheVariants.{Holes}
@@ -109,9 +110,6 @@ counted m h = record { does = λ s e. h.does s e }
 pub unless : {n : ℕ} {M : Locals → Type 0} (A : Flow → Type 0) {B : Flow → Type 0} {go : Run (Unit {0}) Locals Flow} → ((v : ValueTree) → A (Some v) → B (Some v)) → Does n M (λ y e. B y × M e) go → (flow : Flow) → A flow → Does n M (λ y e. B y × M e) (unless_left go flow)
 unless A k h None a = h
 unless A k h (Some v) a = gives (Some v) (k v a)
-
-abbrev pub IsTruth : ValueTree → Type 0
-IsTruth v = (b : Bool) × (v ≡ Truth b)
 
 chooses_by : {n : ℕ} {P : Locals → Type 0} {R : Flow → Locals → Type 0} (p q : Run (Unit {0}) Locals Flow) (v : ValueTree) → IsTruth v → Does n P R p → Does n P R q → Does n P R (truth v >>= (λ b. if b then p else q))
 chooses_by {n = n} {P = P} {R = R} p q v t h k = subst (λ v. Does n P R (truth v >>= (λ b. if b then p else q))) (sym t.1) (then_pure t.0 (λ b. if b then p else q) (if_does t.0 h k))

@@ -23,7 +23,7 @@ use Rattle.hv_copying.specs.Meaning.{IsSafe, node_of}
 use Rattle.hv_texts.specs.Texts.{index_of, has}
 use Rattle.hv_lemmas.proofs.Members.{Among, in_left, in_right, either_in, listed, contained}
 use Rattle.hv_judge.proofs.Program.{types_first}
-use Rattle.hv_safe.specs.Formed.{IsFormed, IsBody, PartIsFormed, AreOfLevel}
+use Rattle.hv_law_formed.specs.Formed.{IsFormed, IsBody, PartIsFormed, AreOfLevel}
 use Rattle.hv_safe.specs.Runs.{OnlyReads, PartRuns, Returns, Runs}
 use Rattle.hv_safe.proofs.Lists.{is_text}
 use Rattle.hv_safe.proofs.Theorem.{accepted_safe}

@@ -15,8 +15,8 @@ use Rattle.hv_copying.specs.Calls.{passed_captures}
 use Rattle.hv_copying.specs.Copying.{Locals, tree_at, change_at, with_tree, at_spot, written, without, callee_trees, entering, returned, copying}
 use Rattle.hv_lemmas.proofs.Members.{Among}
 use Rattle.hv_safe.proofs.Ends.{Does, Finds, looks}
-use Rattle.hv_safe.proofs.Fits.{Fits, FitLocals, locals_none, locals_more}
-use Rattle.hv_safe.proofs.Ways.{LinksFit, Arrives, arrives, falls_out, walks}
+use Rattle.hv_law_formed.proofs.Fits.{Fits, FitLocals, locals_none, locals_more}
+use Rattle.hv_law_formed.proofs.Ways.{LinksFit, Arrives, arrives, falls_out, walks}
 use Rattle.hv_safe.proofs.Lists.{get_left, at_among, Distinct, numbered}
 
 pub record Matches (tree : Core) (body : CoreBody) (visible : List Local) (refs : List ValueType) (e : Locals) : Type 0 where

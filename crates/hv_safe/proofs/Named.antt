@@ -21,12 +21,12 @@ use Rattle.hv_copying.specs.Calls.{Callee, Constructs, Enters, value_callee, str
 use Rattle.hv_copying.specs.Evaluate.{function_value, top_value, named}
 use Rattle.hv_copying.specs.Copying.{Locals, copying}
 use Rattle.hv_lemmas.proofs.Members.{Among}
-use Rattle.hv_safe.specs.Formed.{IsBody}
+use Rattle.hv_law_formed.specs.Formed.{IsBody}
 use Rattle.hv_safe.proofs.Ends.{Does, bind, next, given, before, behind, gives, then_pure, then_known, then_pay}
-use Rattle.hv_safe.proofs.Inside.{Good, good_fun}
+use Rattle.hv_law_formed.proofs.Inside.{Good, good_fun}
 use Rattle.hv_safe.proofs.Lists.{fun_found, struct_found}
-use Rattle.hv_safe.proofs.Fits.{Fits, FitLocals, f_closure, locals_none, body_type, IsFunction, is_closure, no_hole}
-use Rattle.hv_safe.proofs.Ways.{LinksFit}
+use Rattle.hv_law_formed.proofs.Fits.{Fits, FitLocals, f_closure, locals_none, body_type, IsFunction, is_closure, no_hole}
+use Rattle.hv_law_formed.proofs.Ways.{LinksFit}
 use Rattle.hv_safe.proofs.Asked.{ValueOf}
 use Rattle.hv_safe.proofs.Accepted.{Accepted, refused, IsLocal, IsTop, body_numbered}
 use Rattle.hv_safe.proofs.Matches.{Matches, IsPlace, finds_place}

@@ -32,13 +32,13 @@ use Rattle.hv_copying.specs.Blocks.{first_token}
 use Rattle.hv_copying.specs.Evaluate.{if_local, value, values, chained, indices, place_in, call, parts, args, block, statements, statement, choices}
 use Rattle.hv_copying.specs.Copying.{Locals, copying}
 use Rattle.hv_lemmas.proofs.Members.{Among, contained}
-use Rattle.hv_safe.specs.Formed.{AreOfLevel}
+use Rattle.hv_law_formed.specs.Formed.{AreOfLevel}
 use Rattle.hv_safe.specs.Runs.{gives_back}
-use Rattle.hv_safe.proofs.Ends.{Does, IsTruth, bind, next, behind, gives, then_known, then_pay, says, writes, unless, chooses, repeats}
-use Rattle.hv_safe.proofs.Inside.{AllIn, first_in, rest_in, left_in, right_in, Good, lambda_listed}
+use Rattle.hv_safe.proofs.Ends.{Does, bind, next, behind, gives, then_known, then_pay, says, writes, unless, chooses, repeats}
+use Rattle.hv_law_formed.proofs.Fits.{IsTruth, Fits, f_number, f_truth, f_closure, is_truth}
+use Rattle.hv_law_formed.proofs.Inside.{AllIn, first_in, rest_in, left_in, right_in, Good, lambda_listed}
 use Rattle.hv_safe.proofs.Lists.{mapped}
-use Rattle.hv_safe.proofs.Fits.{Fits, f_number, f_truth, f_closure, is_truth}
-use Rattle.hv_safe.proofs.Ways.{l_end}
+use Rattle.hv_law_formed.proofs.Ways.{l_end}
 use Rattle.hv_safe.proofs.Asked.{ValueOf, asked, applies, between, decided, negated, inverted, then_number, fills_with, Takes}
 use Rattle.hv_safe.proofs.Accepted.{Accepted, refused, is_used, is_captured, IsLocal, IsTop, Scoped, resolved, resolved_capture, all_distinct, body_numbered}
 use Rattle.hv_safe.proofs.Matches.{one_number, forgets, PassedFit, value_passed, lent_passed, none_passed, passed_more, passed_still, captures_passed}

@@ -16,11 +16,11 @@ use Rattle.hv_type_rules.specs.Typing as typing
 use Rattle.hv_type_rules.specs.TypeRules.{expr_place, Misfits, ElementMisfits, ArgMisfits, CallMisfits, count_of, CountDiffers, HasMark, MarkDiffers, CallT5}
 use Rattle.hv_value.specs.ValueTree.{ValueTree, Elements, row}
 use Rattle.hv_lemmas.proofs.Members.{Among, either_in, contained}
-use Rattle.hv_safe.specs.Formed.{level_of, MayGoOn, AreOfLevel, HasElement, PartIsFormed}
+use Rattle.hv_law_formed.specs.Formed.{level_of, MayGoOn, AreOfLevel, HasElement, PartIsFormed}
 use Rattle.hv_safe.specs.Runs.{PartRuns}
-use Rattle.hv_safe.proofs.Inside.{Good}
+use Rattle.hv_law_formed.proofs.Inside.{Good}
 use Rattle.hv_safe.proofs.Lists.{get_left, get_right, among_at, Distinct, numbered, field_found}
-use Rattle.hv_safe.proofs.Fits.{Fits, FitAll, all_none, all_more, FitEach, each_none, each_more, f_elements}
+use Rattle.hv_law_formed.proofs.Fits.{Fits, FitAll, all_none, all_more, FitEach, each_none, each_more, f_elements}
 use Rattle.hv_safe.proofs.Asked.{ValueOf, asked, Takes, given_by_level, taken_by_level}
 use Rattle.hv_safe.proofs.Accepted.{Accepted, Seen, Scoped}
 use Rattle.hv_safe.proofs.Matches.{value_typed}

@@ -11,10 +11,10 @@ use Rattle.hv_copying.specs.Evaluate.{block, body_run, body_by, bodies_run, acti
 use Rattle.hv_copying.specs.Copying.{Locals, copying}
 use Rattle.hv_copying.specs.Meaning.{node_by, node_of, root_by, start, below_root, main_in, IsSafe}
 use Rattle.hv_lemmas.proofs.Members.{Among, contained}
-use Rattle.hv_safe.specs.Formed.{IsFormed, IsBody}
+use Rattle.hv_law_formed.specs.Formed.{IsFormed, IsBody}
 use Rattle.hv_safe.specs.Runs.{gives_back, ends_in_return, block_ends_in_return, Returns, Runs}
 use Rattle.hv_safe.proofs.Ends.{Ends, e_is, e_trap, e_spent, Does, next, gives, counted}
-use Rattle.hv_safe.proofs.Inside.{Good, good_fun}
+use Rattle.hv_law_formed.proofs.Inside.{Good, good_fun}
 use Rattle.hv_safe.proofs.Lists.{fun_found}
 use Rattle.hv_safe.proofs.Accepted.{Accepted, accepted, body_numbered, Main, main_is}
 use Rattle.hv_safe.proofs.Matches.{Matches}

@@ -1,3 +1,2 @@
 -- what the law asks of a program besides the rules
-pub mod Formed
 pub mod Runs

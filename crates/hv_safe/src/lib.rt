@@ -3,4 +3,4 @@
 
 mod law;
 
-pub use law::{accepted_runs_are_safe, spelled_trees_are_formed};
+pub use law::accepted_runs_are_safe;

@@ -1,7 +1,7 @@
 -- A stack whose last item comes first.
 use Rattle.std.proofs.Common.{◌≡◌, ℕ, zero, suc, ◌+◌, ◌-◌, ◌<◌, List, [], ◌∷◌, ◌++◌, length, get_or, reverse, Some, None, refl, sym, ◌∙◌, ap, arith}
 use Rattle.std.proofs.Math.ListN.{set}
-use Rattle.std.proofs.lemmas.List.{reverse-append, length-reverse, get_or-reverse}
+use Rattle.std.proofs.lemmas.List.{length-reverse, get_or-reverse}
 use Rattle.std.proofs.lemmas.Grind.{reverse_onto}
 use Rattle.hv_versions.specs.Stacks.{first_of, rest_of, with_first}
 

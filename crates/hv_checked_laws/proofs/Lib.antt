@@ -1,4 +1,0 @@
--- places at which a source is refused
-mod Placed
--- accepted programs are safe
-mod Safe

@@ -1,5 +1,0 @@
-use Rattle.hv_checked_laws.proofs.Safe.{accepted_is_safe}
-use Rattle.hv_checked_laws.proofs.law.accepted_programs_are_safe.Goals as goal
-
-pub returns : goal.returns
-returns c = accepted_is_safe

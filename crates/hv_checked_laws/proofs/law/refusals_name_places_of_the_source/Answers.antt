@@ -1,5 +1,0 @@
-use Rattle.hv_checked_laws.proofs.Placed.{first_placed}
-use Rattle.hv_checked_laws.proofs.law.refusals_name_places_of_the_source.Goals as goal
-
-pub returns : goal.returns
-returns c = first_placed

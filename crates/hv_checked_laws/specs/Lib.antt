@@ -1,2 +1,0 @@
--- places at which a source is refused
-pub mod Placed

@@ -1,0 +1,4 @@
+-- places inside a source
+pub mod Inside
+-- places at which a source is refused
+pub mod Placed

@@ -1,2 +1,0 @@
--- places inside a source
-pub mod Inside
