@@ -5,4 +5,6 @@ mod kinds;
 mod root;
 mod tie;
 
+pub use hv_copying::TrapKind;
+pub use hv_node::{End, TaskNode};
 pub use root::{evaluate, plain};
