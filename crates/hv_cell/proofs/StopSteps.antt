@@ -17,6 +17,7 @@ use Rattle.hv_cell.specs.Tokens.{Home, no_table, naming}
 use Rattle.hv_cell.specs.Reasons.{no_reason, only, both, has, Within, bit_of, coded, word_of, reasons_in}
 use Rattle.hv_cell.specs.StopRule.{making, watching, fresh, Fits, Stops, Sat, named, newcomer, looked, stopped}
 use Rattle.hv_cell.proofs.Lists.{below, alone}
+use Rattle.hv_lemmas.proofs.Bools.{or_left}
 
 or_bit : (f m : Bool) (why : Why) → bit_or (coded f m) (bit_of why) ≡ word_of (both record { finished = f; no_memory = m } (only why))
 or_bit false false Finished = refl
@@ -32,12 +33,9 @@ pub bit_is : (why : Why) → reasons_in (bit_of why) ≡ only why
 bit_is Finished = refl
 bit_is NoMemory = refl
 
-stays : (a b : Bool) → a ≡ true → (a || b) ≡ true
-stays a b e = subst (λ t. (t || b) ≡ true) (sym e) refl
-
 pub within_both : (a b : Reasons) → Within a (both a b)
-within_both a b Finished e = stays a.finished b.finished e
-within_both a b NoMemory e = stays a.no_memory b.no_memory e
+within_both a b Finished e = or_left a.finished b.finished e
+within_both a b NoMemory e = or_left a.no_memory b.no_memory e
 
 or_true : (a : Bool) → (a || true) ≡ true
 or_true false = refl

@@ -1,9 +1,10 @@
 -- The test of two paths says whether they overlap.
-use Rattle.std.proofs.Common.{◌≡◌, ◌⊎◌, inl, inr, ℤ, pos, negsuc, Bool, true, false, ◌&&◌, List, [], ◌∷◌, refl, sym, ap}
+use Rattle.std.proofs.Common.{◌≡◌, ◌⊎◌, inl, inr, ℤ, pos, negsuc, true, ◌&&◌, List, [], ◌∷◌, refl, sym, ap}
 use Rattle.std.proofs.lemmas.Bool.{eq-eqb, eqb-true}
 use Rattle.hv_decls.specs.declared.path.StaticStep.{StaticStep}
 use Rattle.hv_decls.specs.declared.path.StaticStep.TheVariants as step
 use Rattle.hv_decls.specs.Paths.{Compatible, IsPrefix, same_int, compatible, steps_meet}
+use Rattle.hv_lemmas.proofs.Bools.{and_parts, and_both}
 
 -- ---- one step
 
@@ -65,32 +66,24 @@ to_other step.Any step.Any e = tt
 
 -- ---- lists of steps
 
-both_true : (p q : Bool) → (p && q) ≡ true → (p ≡ true) × (q ≡ true)
-both_true true q e = (refl, e)
-both_true false q e = cc
-
 pub meets : (xs ys : List StaticStep) → steps_meet xs ys ≡ true → IsPrefix xs ys ⊎ IsPrefix ys xs
 meets [] ys e = inl tt
 meets (x ∷ xs) [] e = inr tt
-meets (x ∷ xs) (y ∷ ys) e = let s = both_true (compatible x y) (steps_meet xs ys) e in joined x y xs ys s.0 (meets xs ys s.1)
+meets (x ∷ xs) (y ∷ ys) e = let s = and_parts (compatible x y) (steps_meet xs ys) e in joined x y xs ys s.0 (meets xs ys s.1)
   where
     joined : (x y : StaticStep) (xs ys : List StaticStep) → compatible x y ≡ true → IsPrefix xs ys ⊎ IsPrefix ys xs → IsPrefix (x ∷ xs) (y ∷ ys) ⊎ IsPrefix (y ∷ ys) (x ∷ xs)
     joined x y xs ys c (inl p) = inl (to x y c, p)
     joined x y xs ys c (inr p) = inr (to_other x y c, p)
 
-and_true : (p q : Bool) → p ≡ true → q ≡ true → (p && q) ≡ true
-and_true true q e f = f
-and_true false q e f = e
-
 pub prefix_meets : (xs ys : List StaticStep) → IsPrefix xs ys → steps_meet xs ys ≡ true
 prefix_meets [] ys p = refl
 prefix_meets (x ∷ xs) [] p = absurd p
-prefix_meets (x ∷ xs) (y ∷ ys) p = and_true _ _ (from x y p.0) (prefix_meets xs ys p.1)
+prefix_meets (x ∷ xs) (y ∷ ys) p = and_both _ _ (from x y p.0) (prefix_meets xs ys p.1)
 
 pub meets_prefix : (xs ys : List StaticStep) → IsPrefix ys xs → steps_meet xs ys ≡ true
 meets_prefix [] ys p = refl
 meets_prefix (x ∷ xs) [] p = refl
-meets_prefix (x ∷ xs) (y ∷ ys) p = and_true _ _ (from_other x y p.0) (meets_prefix xs ys p.1)
+meets_prefix (x ∷ xs) (y ∷ ys) p = and_both _ _ (from_other x y p.0) (meets_prefix xs ys p.1)
 
 pub meet_of : (xs ys : List StaticStep) → IsPrefix xs ys ⊎ IsPrefix ys xs → steps_meet xs ys ≡ true
 meet_of xs ys (inl p) = prefix_meets xs ys p

@@ -15,7 +15,8 @@ use Rattle.hv_tree.specs.Refusal.{is_mark}
 use Rattle.hv_grammar.specs.Expressions.{begins_primary, begins_expr, begins_arg}
 use Rattle.hv_exact.proofs.Exact.{Stops, Begins}
 use Rattle.hv_exact.proofs.Inner.{IsPlace, IsPlacedCall, IsPlacedBlock}
-use Rattle.hv_exact.proofs.Shorts.{off_at, on_at, begins_more, begins_wider, begins_stops, excludes, or_right, zero_at, Can}
+use Rattle.hv_exact.proofs.Shorts.{off_at, on_at, begins_more, begins_wider, begins_stops, excludes, zero_at, Can}
+use Rattle.hv_lemmas.proofs.Bools.{or_right}
 
 -- ---- a numeral shows that there are expressions
 

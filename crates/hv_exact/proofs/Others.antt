@@ -17,7 +17,8 @@ use Rattle.hv_grammar.specs.Statements as s
 use Rattle.hv_grammar.specs.Statements.{begins_stmt}
 use Rattle.hv_exact.proofs.Exact.{Exact, Stops, Begins, Either, choose_exact, exact_by, exact_on, nowhere, never}
 use Rattle.hv_exact.proofs.Inner.{on_type, on_expr}
-use Rattle.hv_exact.proofs.Shorts.{on_at, stops_left, stops_right, or_left, or_right, begins_wider, begins_stops, excludes, excludes_keyword, excludes_by}
+use Rattle.hv_exact.proofs.Shorts.{on_at, stops_left, stops_right, begins_wider, begins_stops, excludes, excludes_keyword, excludes_by}
+use Rattle.hv_lemmas.proofs.Bools.{or_left, or_right}
 use Rattle.hv_exact.proofs.Lexemes.{a_word}
 use Rattle.hv_exact.proofs.Parts.{Parts}
 use Rattle.hv_exact.proofs.Bindings.{Var, Let, Inout, Assign, to_var, to_let, to_inout, to_assign, from_var, from_var_with, from_let, from_inout, from_assign, on_initial, on_var, expr_stops_steps, var_exact, let_exact, inout_exact, assign_exact}

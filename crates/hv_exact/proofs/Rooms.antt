@@ -7,11 +7,11 @@ use Rattle.hv_tree.specs.Tokens.{Tokens, mark}
 use Rattle.hv_tree.specs.Refusal.{is_mark, is_opening, is_closing, TooManyAt}
 use Rattle.hv_grammar.specs.Room.{room, room_by, one_less, option_then}
 use Rattle.hv_exact.proofs.Lexemes.{a_mark}
-use Rattle.hv_exact.proofs.Shorts.{or_true}
+use Rattle.hv_lemmas.proofs.Bools.{or_either}
 
 -- a closing bracket is no opening one
 closing_off : (k : Token) → is_closing k ≡ true → is_opening k ≡ false
-closing_off k e = last (or_true (is_mark (codes ")") k || is_mark (codes "]") k) (is_mark (codes "}") k) e)
+closing_off k e = last (or_either (is_mark (codes ")") k || is_mark (codes "]") k) (is_mark (codes "}") k) e)
   where
     at : (s : List ℕ) → is_opening (mark s k.place) ≡ false → is_mark s k ≡ true → is_opening k ≡ false
     at s off m = ap is_opening ((a_mark s).known k m) ∙ off
@@ -21,7 +21,7 @@ closing_off k e = last (or_true (is_mark (codes ")") k || is_mark (codes "]") k)
     first (inr m) = at (codes "]") refl m
 
     last : (((is_mark (codes ")") k || is_mark (codes "]") k) ≡ true) ⊎ (is_mark (codes "}") k ≡ true)) → is_opening k ≡ false
-    last (inl m) = first (or_true (is_mark (codes ")") k) (is_mark (codes "]") k) m)
+    last (inl m) = first (or_either (is_mark (codes ")") k) (is_mark (codes "]") k) m)
     last (inr m) = at (codes "}") refl m
 
 -- the room after a token, by what it is

@@ -7,6 +7,7 @@ use Rattle.hv_tree.specs.Refusal.{is_mark}
 use Rattle.hv_grammar.specs.Lexemes.{is_keyword}
 use Rattle.hv_exact.proofs.Exact.{Stops, Begins, Then, Either, Nothing}
 use Rattle.hv_exact.proofs.Lexemes.{After, Lexeme, a_mark, a_keyword}
+use Rattle.hv_lemmas.proofs.Bools.{or_neither}
 
 abbrev pub zero_at : Place
 zero_at = record { start = 0 }
@@ -34,29 +35,13 @@ either_off R S on left right a ts rest (inr h) = right a ts rest h
 
 -- ---- one of two tests
 
-pub or_false : (a b : Bool) → (a || b) ≡ false → (a ≡ false) × (b ≡ false)
-or_false true b e = absurd (cc)
-or_false false b e = (refl, e)
-
-pub or_true : (a b : Bool) → (a || b) ≡ true → (a ≡ true) ⊎ (b ≡ true)
-or_true true b e = inl refl
-or_true false b e = inr e
-
-pub or_left : (a b : Bool) → a ≡ true → (a || b) ≡ true
-or_left true b e = refl
-or_left false b e = absurd (cc)
-
-pub or_right : (a b : Bool) → b ≡ true → (a || b) ≡ true
-or_right true b e = refl
-or_right false b e = e
-
 pub stops_left : (on on' : Token → Bool) (rest : Tokens) → Stops (λ k. on k || on' k) rest → Stops on rest
 stops_left on on' [] h = tt
-stops_left on on' (k ∷ rest) h = (or_false (on k) (on' k) h).0
+stops_left on on' (k ∷ rest) h = (or_neither (on k) (on' k) h).0
 
 pub stops_right : (on on' : Token → Bool) (rest : Tokens) → Stops (λ k. on k || on' k) rest → Stops on' rest
 stops_right on on' [] h = tt
-stops_right on on' (k ∷ rest) h = (or_false (on k) (on' k) h).1
+stops_right on on' (k ∷ rest) h = (or_neither (on k) (on' k) h).1
 
 -- ---- a test that another follows from, or excludes
 

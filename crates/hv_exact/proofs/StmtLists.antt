@@ -19,7 +19,8 @@ use Rattle.hv_exact.proofs.Lexemes.{After, a_mark, a_keyword, a_word, next_exact
 use Rattle.hv_exact.proofs.Until.{ExactAt, Until, until_exact}
 use Rattle.hv_exact.proofs.At.{at_each, choose_at, next_at}
 use Rattle.hv_exact.proofs.Inner.{on_expr}
-use Rattle.hv_exact.proofs.Shorts.{on_at, empty_stops, stops_left, stops_right, begins_more, begins_wider, front_stops, excludes, excludes_keyword, fails, fails_keyword, fails_by, or_right}
+use Rattle.hv_exact.proofs.Shorts.{on_at, empty_stops, stops_left, stops_right, begins_more, begins_wider, front_stops, excludes, excludes_keyword, fails, fails_keyword, fails_by}
+use Rattle.hv_lemmas.proofs.Bools.{or_right, neither}
 use Rattle.hv_exact.proofs.Mapped.{Mapped, mapped_exact}
 use Rattle.hv_exact.proofs.Semicolons.{IsSemicolon, on_semicolon, semicolon_exact, semicolon_stops}
 use Rattle.hv_exact.proofs.Others.{IsOther, ValuedReturn, split_stmt, on_stmt, stmt_stops_expr, other_stmt_exact}
@@ -134,13 +135,9 @@ on_last false k = on_more k
 abbrev on_item : Item → Token → Bool
 on_item a = on_last a.1
 
-or_off : (a b : Bool) → a ≡ false → b ≡ false → (a || b) ≡ false
-or_off true b x y = absurd (cc)
-or_off false b x y = y
-
 both_stop : (on on' : Token → Bool) (rest : Tokens) → Stops on rest → Stops on' rest → Stops (λ k. on k || on' k) rest
 both_stop on on' [] x y = tt
-both_stop on on' (k ∷ rest) x y = or_off (on k) (on' k) x y
+both_stop on on' (k ∷ rest) x y = neither (on k) (on' k) x y
 
 more_stops_value : (rest : Tokens) → Stops on_more rest → Stops on_value rest
 more_stops_value rest h = both_stop on_semicolon on_expr rest (stops_left on_semicolon on_stmt rest h) (stmt_stops_expr rest (stops_right on_semicolon on_stmt rest h))

@@ -15,7 +15,8 @@ use Rattle.hv_grammar.specs.Signatures.{InnerTypes, begins_conv, begins_result, 
 use Rattle.hv_exact.proofs.Exact.{Exact, Stops, Begins, Then, Either, Nothing, then_exact, done_exact, choose_exact, exact_by, nowhere, never}
 use Rattle.hv_exact.proofs.Lexemes.{After, a_mark, a_keyword, a_word, next_exact, bracketed_exact}
 use Rattle.hv_exact.proofs.Inner.{on_type}
-use Rattle.hv_exact.proofs.Shorts.{zero_at, off_at, on_at, empty_stops, or_right, stops_left, stops_right, begins_wider, begins_stops, front_stops, excludes_keyword, Can, can_nothing, can_after, can_then}
+use Rattle.hv_exact.proofs.Shorts.{zero_at, off_at, on_at, empty_stops, stops_left, stops_right, begins_wider, begins_stops, front_stops, excludes_keyword, Can, can_nothing, can_after, can_then}
+use Rattle.hv_lemmas.proofs.Bools.{or_right}
 use Rattle.hv_exact.proofs.Separated.{separated_exact, separated_begins}
 use Rattle.hv_exact.proofs.ConvRules.{conv_exact}
 

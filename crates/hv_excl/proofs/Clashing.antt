@@ -15,6 +15,7 @@ use Rattle.hv_rules.specs.States.{Mode, Reading, Writing, Setting, Access, bindi
 use Rattle.hv_rules.specs.Rules.{asks_free, asks_unwritten, Clashes, ClashesWithChange}
 use Rattle.hv_decls.proofs.Overlaps.{meets, meet_of}
 use Rattle.hv_excl.specs.Clashes.{overlaps, counts, clashes, change_refused, read_refused, refused_at}
+use Rattle.hv_lemmas.proofs.Bools.{and_parts, and_both}
 
 -- ---- items of a list
 
@@ -33,19 +34,11 @@ among_none a (k, l, e) = omega (arith, l)
 
 -- ---- two paths
 
-both_true : (p q : Bool) → (p && q) ≡ true → (p ≡ true) × (q ≡ true)
-both_true true q e = (refl, e)
-both_true false q e = cc
-
-and_true : (p q : Bool) → p ≡ true → q ≡ true → (p && q) ≡ true
-and_true true q e f = f
-and_true false q e f = e
-
 pub overlap_of : (a b : StaticPath) → overlaps a b ≡ true → Overlap a b
-overlap_of a b e = let s = both_true (a.root == b.root) (steps_meet a.steps b.steps) e in (eqb-true a.root b.root s.0, meets a.steps b.steps s.1)
+overlap_of a b e = let s = and_parts (a.root == b.root) (steps_meet a.steps b.steps) e in (eqb-true a.root b.root s.0, meets a.steps b.steps s.1)
 
 pub overlap_to : (a b : StaticPath) → Overlap a b → overlaps a b ≡ true
-overlap_to a b h = and_true (a.root == b.root) (steps_meet a.steps b.steps) (eq-eqb a.root b.root h.0) (meet_of a.steps b.steps h.1)
+overlap_to a b h = and_both (a.root == b.root) (steps_meet a.steps b.steps) (eq-eqb a.root b.root h.0) (meet_of a.steps b.steps h.1)
 
 -- ---- a path and open accesses
 
@@ -73,7 +66,7 @@ clash_of reading p [] e = cc
 clash_of reading p (a ∷ xs) e = by (counts reading a.mode && overlaps p a.path) refl e (clash_of reading p xs)
   where
     by : (t : Bool) → (counts reading a.mode && overlaps p a.path) ≡ t → (t || clashes reading p xs) ≡ true → (clashes reading p xs ≡ true → Clash reading p xs) → Clash reading p (a ∷ xs)
-    by true f g h = let s = both_true (counts reading a.mode) (overlaps p a.path) f in (a, among_first a xs a refl, overlap_of p a.path s.1, s.0)
+    by true f g h = let s = and_parts (counts reading a.mode) (overlaps p a.path) f in (a, among_first a xs a refl, overlap_of p a.path s.1, s.0)
     by false f g h = let w = h g in (w.0, among_others a xs w.0 w.1, w.2, w.3)
 
 or_left : (p q : Bool) → p ≡ true → (p || q) ≡ true
@@ -89,7 +82,7 @@ clash_to reading p [] a c o k = absurd (among_none a c)
 clash_to reading p (x ∷ xs) a c o k = by (among x xs a c) (λ d. clash_to reading p xs a d o k)
   where
     here : (z : Access) → z ≡ a → (counts reading z.mode && overlaps p z.path) ≡ true
-    here z e = subst (λ (y : Access). (counts reading y.mode && overlaps p y.path) ≡ true) (sym e) (and_true (counts reading a.mode) (overlaps p a.path) k (overlap_to p a.path o))
+    here z e = subst (λ (y : Access). (counts reading y.mode && overlaps p y.path) ≡ true) (sym e) (and_both (counts reading a.mode) (overlaps p a.path) k (overlap_to p a.path o))
 
     by : (x ≡ a) ⊎ Contains xs a → (Contains xs a → clashes reading p xs ≡ true) → clashes reading p (x ∷ xs) ≡ true
     by (inl e) h = or_left (counts reading x.mode && overlaps p x.path) (clashes reading p xs) (here x e)

@@ -4,6 +4,7 @@ use Rattle.std.proofs.lemmas.List.{append-nil}
 use Rattle.hv_rules.specs.Flow.{Flow, Skip, Do, Stop, Then, Either, Loop, Turns, none, more, Ends, Leaves}
 use Rattle.hv_flow.specs.Positions.{places, is_empty, At, First, Last, Final, Next, Path, here, step}
 use Rattle.hv_flow.proofs.Ranges.{In, at_in, first_in, last_in, final_in, next_in}
+use Rattle.hv_lemmas.proofs.Bools.{and_both, or_left, or_right}
 
 -- ---- paths
 
@@ -50,16 +51,6 @@ lap_path k a i es j p = map_path k k a (Loop a) (λ _ _ h. h) (λ _ _ h. inl h) 
 
 abbrev pub Walked : {E : Type 0} → ℕ → Flow E → List E → Type 0
 Walked k f es = ((es ≡ []) × (is_empty f ≡ true)) ⊎ Through k f (λ j. Last k f j) es
-
-and_both : (a b : Bool) → a ≡ true → b ≡ true → (a && b) ≡ true
-and_both a b p q = cc
-
-or_left : (a b : Bool) → a ≡ true → (a || b) ≡ true
-or_left a b p = cc
-
-or_right : (a b : Bool) → b ≡ true → (a || b) ≡ true
-or_right true b p = refl
-or_right false b p = p
 
 walked_then : {E : Type 0} (k : ℕ) (a b : Flow E) (es xs ys : List E) → es ≡ xs ++ ys → Walked k a xs → Walked (k + places a) b ys → Walked k (Then a b) es
 walked_then k a b es xs ys e (inl p) (inl q) = inl (cc, and_both _ _ p.1 q.1)

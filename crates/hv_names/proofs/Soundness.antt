@@ -23,6 +23,7 @@ use Rattle.hv_names.proofs.Judged.{Judged, typed, used, captured, declared, judg
 use Rattle.hv_names.proofs.Bodies.{IsBody, is_fun, is_lambda, own_names, all_names, local_of, Shared, out_declared}
 use Rattle.hv_names.proofs.Shares.{Stands, stands, place_at, low_or_high}
 use Rattle.hv_names.proofs.Placed.{FoundIn, out_decls, sites_in, fun_sites, bodies_in, lambda_body_in}
+use Rattle.hv_lemmas.proofs.Bools.{and_parts, or_left, or_right}
 
 -- a violation of a rule of names
 pub data Wrong (tree : Core) (r : Refusal) : Type 0 where
@@ -39,10 +40,6 @@ of_rule n r e = sym (ap (λ (x : Refusal). x.rule) e)
 none_of : {A : Type 0} (o : Option A) → not (is_some o) ≡ true → o ≡ None
 none_of None e = refl
 none_of (Some a) e = cc
-
-both_of : (a b : Bool) → (a && b) ≡ true → (a ≡ true) × (b ≡ true)
-both_of true b e = (refl, e)
-both_of false b e = cc
 
 abbrev pub tree_of : List CoreDecl → Core
 tree_of decls = record { decls = decls }
@@ -139,7 +136,7 @@ of_declared decls before after d is body of captures params block shape r h = by
 
 none_visible : (decls : List CoreDecl) (visible : List Local) (n : Name) → (not (sees visible n.text) && not (has (spec.texts_of (spec.decl_names decls)) n.text)) ≡ true → NothingVisible (tree_of decls) visible n
 none_visible decls visible n e =
-    let b = both_of (not (sees visible n.text)) (not (has (spec.texts_of (spec.decl_names decls)) n.text)) e in
+    let b = and_parts (not (sees visible n.text)) (not (has (spec.texts_of (spec.decl_names decls)) n.text)) e in
     (none_of (local_in visible n.text) b.0, λ h. not_there (spec.texts_of (spec.decl_names decls)) n.text b.1 (has_of (spec.decl_names decls) n.text h))
 
 of_site : (decls before after : List CoreDecl) (f : CoreFun) → decls ≡ before ++ FunOf f ∷ after → (w : Site) → Among (sites_of_body (fun_body f)) w → (r : Refusal) → Judged (spec.program_of decls (length before)) w.scope.visible w.part r → Wrong (tree_of decls) r
@@ -195,17 +192,9 @@ is_by text [] None e f g = (bytes_decides text (codes "main")).1 e
 is_by text [] (Some t) e f g = cc
 is_by text (x ∷ xs) result e f g = cc
 
-or_true : (a b : Bool) → a ≡ true → (a || b) ≡ true
-or_true true b e = refl
-or_true false b e = cc
-
-or_right : (a b : Bool) → b ≡ true → (a || b) ≡ true
-or_right true b e = refl
-or_right false b e = e
-
 main_there : (decls : List CoreDecl) (f : CoreFun) → Among decls (FunOf f) → spec.is_main (FunOf f) ≡ true → spec.has_main decls ≡ true
 main_there [] f h e = absurd h
-main_there (d ∷ ds) f (inl g) e = or_true (spec.is_main d) (spec.has_main ds) (rw g e)
+main_there (d ∷ ds) f (inl g) e = or_left (spec.is_main d) (spec.has_main ds) (rw g e)
 main_there (d ∷ ds) f (inr h) e = or_right (spec.is_main d) (spec.has_main ds) (main_there ds f h e)
 
 of_main : (decls : List CoreDecl) (r : Refusal) → Among (spec.main_found decls) r → Wrong (tree_of decls) r

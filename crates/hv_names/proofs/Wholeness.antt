@@ -24,6 +24,7 @@ use Rattle.hv_names.proofs.Bodies.{own_names, all_names, name_of, repeats_declar
 use Rattle.hv_names.proofs.Shares.{first_at, Within, within, stands, place_at}
 use Rattle.hv_names.proofs.Placed.{split, in_decls, sites_out, site_found, BodyOf, own_body, lambda_among, bodies_out}
 use Rattle.hv_names.proofs.Soundness.{tree_of, here, main_by}
+use Rattle.hv_lemmas.proofs.Bools.{and_both}
 
 -- ---- into all that is found
 
@@ -175,10 +176,6 @@ not_some : {A : Type 0} (o : Option A) → o ≡ None → not (is_some o) ≡ tr
 not_some None e = refl
 not_some (Some a) e = cc
 
-and_true : (a b : Bool) → a ≡ true → b ≡ true → (a && b) ≡ true
-and_true true b e f = f
-and_true false b e f = cc
-
 whole_n2 : (decls : List CoreDecl) (place : Place) → ViolatesN2 (tree_of decls) place → Among (spec.all_found decls) (spec.refusal rule.N2 place)
 whole_n2 decls place (in_decl d n c k e at) = rw (← at) (typed_decl decls d n (among_of decls d c) (among_of (names_in_all (types_of_decl d)) n k) e)
 whole_n2 decls place (in_type w n c k e at) =
@@ -188,7 +185,7 @@ whole_n2 decls place (as_used w n c k (e, f) at) =
     rw (← at)
     (at_site decls w (spec.refusal rule.N2 n.place) (among_of (decl_sites decls) w c)
     (λ p s t. used_whole p w.scope.visible w.part n (among_of (used_by w.part) n k)
-    (and_true (not (sees w.scope.visible n.text)) (not (has p.tops n.text)) (not_some (local_in w.scope.visible n.text) e)
+    (and_both (not (sees w.scope.visible n.text)) (not (has p.tops n.text)) (not_some (local_in w.scope.visible n.text) e)
     (rw t (there_not (spec.texts_of (spec.decl_names decls)) n.text (λ h. f (named_of (spec.decl_names decls) n.text h)))))))
 whole_n2 decls place (as_captured w n c k e at) =
     rw (← at)

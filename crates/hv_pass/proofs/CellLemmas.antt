@@ -3,16 +3,7 @@ use Rattle.std.proofs.Common.{◌≡◌, ℕ, zero, suc, ◌+◌, ◌<◌, nat_l
 use Rattle.std.proofs.lemmas.Bool.Decides.{nat_tests}
 use Rattle.hv_versions.specs.declared.cell.Cell.{Cell}
 use Rattle.hv_pass.specs.Cells.{may_at, may_in}
-
-or_left : (a b : Bool) → a ≡ true → (a || b) ≡ true
-or_left a b h = cc
-
-or_right : (a b : Bool) → b ≡ true → (a || b) ≡ true
-or_right true b h = refl
-or_right false b h = h
-
-neither : (a b : Bool) → a ≡ false → b ≡ false → (a || b) ≡ false
-neither a b h g = cc
+use Rattle.hv_lemmas.proofs.Bools.{or_left, or_right, neither}
 
 pub may_still : (v : Bool) (from n : ℕ) (cs : List Cell) → may_in v from n cs ≡ false → may_at cs (from + n) v ≡ false → may_in v from (n + 1) cs ≡ false
 may_still v from n cs h g = ap (λ (m : ℕ). may_in v from m cs) more ∙ neither (may_in v from n cs) (may_at cs (from + n) v) h g

@@ -7,6 +7,7 @@ use Rattle.hv_versions.specs.Cells.{is_reached, set_cells, joined, begun, turned
 use Rattle.hv_pass.specs.Cells.{kept_at, may_at, may_in}
 use Rattle.hv_pass.specs.Passes.{Facts, pass_act, pass_acts}
 use Rattle.hv_pass.proofs.Seen.{inside, seen_after, event_after}
+use Rattle.hv_lemmas.proofs.Bools.{or_left, or_right, or_either, and_both, and_first, and_second}
 
 abbrev pub pick : Bool → Bool → Bool → Option Bool → Bool
 pick k n y None = k
@@ -26,30 +27,6 @@ abbrev pub Reached : List Cell → ℕ → Type 0
 Reached cs i = (q : Option Bool) × May cs i q
 
 -- ---- tests
-
-or_left : (a b : Bool) → a ≡ true → (a || b) ≡ true
-or_left true b h = refl
-or_left false b h = cc
-
-or_right : (a b : Bool) → b ≡ true → (a || b) ≡ true
-or_right true b h = refl
-or_right false b h = h
-
-or_either : (a b : Bool) → (a || b) ≡ true → (a ≡ true) ⊎ (b ≡ true)
-or_either true b h = inl refl
-or_either false b h = inr h
-
-and_both : (a b : Bool) → a ≡ true → b ≡ true → (a && b) ≡ true
-and_both true b h g = g
-and_both false b h g = cc
-
-and_first : (a b : Bool) → (a && b) ≡ true → a ≡ true
-and_first true b h = refl
-and_first false b h = h
-
-and_second : (a b : Bool) → (a && b) ≡ true → b ≡ true
-and_second true b h = h
-and_second false b h = cc
 
 pub never : {X : Type 0} → false ≡ true → X
 never h = absurd (by h)

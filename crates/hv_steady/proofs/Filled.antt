@@ -19,12 +19,9 @@ use Rattle.hv_steady.specs.Sight.{declared_before, with_value, sight_behind, see
 use Rattle.hv_steady.specs.Needs.{is_in, takes_from, empties, asks_for, gives_at, unsettles, text_in, needs_state}
 use Rattle.hv_steady.proofs.Each.{Each}
 use Rattle.hv_steady.proofs.SightLevels.{body_level}
+use Rattle.hv_lemmas.proofs.Bools.{or_neither}
 
 -- ---- tests
-
-none_of : (a b : Bool) → (a || b) ≡ false → (a ≡ false) × (b ≡ false)
-none_of true b e = absurd (cc)
-none_of false b e = (refl, e)
 
 one_of : (P : Type 0) (a b : Bool) → (a ≡ true → P) → (b ≡ true → P) → (a || b) ≡ true → P
 one_of P true b f g e = f refl
@@ -41,15 +38,15 @@ both_fail : {E F : Type 0} (test : F → Bool) (g : E → F) (xs ys : List E) �
     (list_any test (map g xs) ≡ false) × (list_any test (map g ys) ≡ false)
 both_fail test g [] ys e = (refl, e)
 both_fail test g (x ∷ xs) ys e =
-    let p = none_of (test (g x)) (list_any test (map g (xs ++ ys))) e in
+    let p = or_neither (test (g x)) (list_any test (map g (xs ++ ys))) e in
     let q = both_fail test g xs ys p.1 in
     (ap (λ b. b || list_any test (map g xs)) p.0 ∙ q.0, q.1)
 
 -- where nothing in the text passes a test, no event of the flow does
 pub text_each : {E F : Type 0} (test : F → Bool) (g : E → F) (f : Flow E) → list_any test (map g (text_of f)) ≡ false → Each (λ e. test (g e) ≡ false) f
 text_each test g Skip e = tt
-text_each test g (Do x) e = (none_of (test (g x)) false e).0
-text_each test g (Stop x) e = (none_of (test (g x)) false e).0
+text_each test g (Do x) e = (or_neither (test (g x)) false e).0
+text_each test g (Stop x) e = (or_neither (test (g x)) false e).0
 text_each test g (Then a b) e = let p = both_fail test g (text_of a) (text_of b) e in (text_each test g a p.0, text_each test g b p.1)
 text_each test g (Either a b) e = let p = both_fail test g (text_of a) (text_of b) e in (text_each test g a p.0, text_each test g b p.1)
 text_each test g (Loop a) e = text_each test g a e
@@ -230,7 +227,7 @@ sight_is_filled k ms a = value_after k ms start [] a (λ fs e. absurd (cc))
 
 module _ (tree : Core) (body : CoreBody) (k : ℕ) (settled : needs_state tree body k ≡ false) where
   each_quiet : Each (λ p. unsettles k (seen_at p) ≡ false) (seen_in tree body)
-  each_quiet = text_each (unsettles k) seen_at (seen_in tree body) (none_of (not (list_any (gives_at k) (text_in tree body))) (list_any (unsettles k) (text_in tree body)) settled).1
+  each_quiet = text_each (unsettles k) seen_at (seen_in tree body) (or_neither (not (list_any (gives_at k) (text_in tree body))) (list_any (unsettles k) (text_in tree body)) settled).1
 
   all_quiet : (ms : List Mark) → Trace tree body ms → AllAre (λ p. unsettles k (seen_at p) ≡ false) (zipped sees ms [])
   all_quiet ms t =
@@ -239,7 +236,7 @@ module _ (tree : Core) (body : CoreBody) (k : ℕ) (settled : needs_state tree b
 
   unemptied : (ms : List Mark) (ks : List ℕ) → AllAre (λ p. unsettles k (seen_at p) ≡ false) (zipped sees ms ks) → AllAre (NotEmptied k) ms
   unemptied [] ks a = tt
-  unemptied (m ∷ ms) ks a = ((none_of (empties m.event k) (asks_for m.event k && not (is_in ks k)) a.0).0, unemptied ms (sees m ks) a.1)
+  unemptied (m ∷ ms) ks a = ((or_neither (empties m.event k) (asks_for m.event k && not (is_in ks k)) a.0).0, unemptied ms (sees m ks) a.1)
 
   ended : (before : List Mark) (last : Mark) → Trace tree body (before ++ last ∷ []) → AllAre (λ p. unsettles k (seen_at p) ≡ false) (zipped sees before [] ++ (last, after_each sees before []) ∷ [])
   ended before last t = subst (λ w. AllAre (λ p. unsettles k (seen_at p) ≡ false) w) (zipped-append sees before (last ∷ []) []) (all_quiet (before ++ last ∷ []) t)
@@ -259,4 +256,4 @@ module _ (tree : Core) (body : CoreBody) (k : ℕ) (settled : needs_state tree b
       quiet = all_last (λ p. unsettles k (seen_at p) ≡ false) (zipped sees before []) (last, after_each sees before []) (ended before last t)
 
       in_sight : is_in (after_each sees before []) k ≡ true
-      in_sight = must_be (asks_for last.event k) (is_in (after_each sees before []) k) (none_of (empties last.event k) (asks_for last.event k && not (is_in (after_each sees before []) k)) quiet).1 asks
+      in_sight = must_be (asks_for last.event k) (is_in (after_each sees before []) k) (or_neither (empties last.event k) (asks_for last.event k && not (is_in (after_each sees before []) k)) quiet).1 asks

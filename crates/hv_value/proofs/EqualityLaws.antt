@@ -8,6 +8,7 @@ use Rattle.hv_value.specs.ValueTree.{ValueTree, Hole, Number, Truth, Fields, Ele
 use Rattle.hv_value.specs.Places.{Path, nth, part, get}
 use Rattle.hv_value.specs.Equality.{same_number, same_truth, same, all_same, has_function, some_function}
 use Rattle.hv_value.proofs.ValueLaws.{tree_of-injective}
+use Rattle.hv_lemmas.proofs.Bools.{and_first, and_second}
 
 pub eqb-same : (m n : ℕ) → (m == n) ≡ true → m ≡ n
 eqb-same m n h = go (eqb_tells m n)
@@ -22,14 +23,6 @@ eqb-refl n = go (eqb_tells n n)
     go : ((n == n) ≡ true) × (n ≡ n) ⊎ ((n == n) ≡ false) × (n ≢ n) → (n == n) ≡ true
     go (inl e) = e.0
     go (inr e) = absurd (e.1 refl)
-
-pub and_left : (a b : Bool) → (a && b) ≡ true → a ≡ true
-and_left true b h = refl
-and_left false b h = h
-
-pub and_right : (a b : Bool) → (a && b) ≡ true → b ≡ true
-and_right true b h = h
-and_right false b h = absurd (true≢false (sym h))
 
 pub or_left : (a b : Bool) → (a || b) ≡ false → a ≡ false
 or_left true b h = h
@@ -57,15 +50,15 @@ mutual
   same_tells (Fields ts) (Fields us) h = ap Fields (all_same_tells ts us h)
   same_tells (Elements ts) (Elements us) h = ap Elements (all_same_tells ts us h)
   same_tells (Closure f ts) (Closure g us) h =
-      ap (λ k. Closure k ts) (eqb-same f g (and_left (f == g) (all_same ts us) h))
-      ∙ ap (Closure g) (all_same_tells ts us (and_right (f == g) (all_same ts us) h))
+      ap (λ k. Closure k ts) (eqb-same f g (and_first (f == g) (all_same ts us) h))
+      ∙ ap (Closure g) (all_same_tells ts us (and_second (f == g) (all_same ts us) h))
   same_tells _ _ h = absurd (true≢false (sym h))
 
   pub all_same_tells : (ts us : Parts) → all_same ts us ≡ true → ts ≡ us
   all_same_tells Nil Nil h = refl
   all_same_tells (Cons t ts) (Cons u us) h =
-      ap (λ x. Cons x ts) (same_tells t u (and_left (same t u) (all_same ts us) h))
-      ∙ ap (Cons u) (all_same_tells ts us (and_right (same t u) (all_same ts us) h))
+      ap (λ x. Cons x ts) (same_tells t u (and_first (same t u) (all_same ts us) h))
+      ∙ ap (Cons u) (all_same_tells ts us (and_second (same t u) (all_same ts us) h))
   all_same_tells _ _ h = absurd (true≢false (sym h))
 
 same_number-refl : (x : ℤ) → same_number x x ≡ true

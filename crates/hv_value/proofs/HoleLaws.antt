@@ -5,15 +5,15 @@ use Rattle.hv_value.specs.declared.value.PathStep.TheVariants.{Field, At}
 use Rattle.hv_value.specs.ValueTree.{ValueTree, Hole, Number, Truth, Fields, Elements, Closure, Parts, Nil, Cons}
 use Rattle.hv_value.specs.Places.{Path, nth, change_nth, part, change_part, get, put, apart}
 use Rattle.hv_value.specs.Holes.{is_whole, all_whole, fields_or_hole, emptied, all_emptied, put_if_there, clear, if_whole, leaving, take_out}
-use Rattle.hv_value.proofs.EqualityLaws.{and_left, and_right}
+use Rattle.hv_lemmas.proofs.Bools.{and_first, and_second}
 use Rattle.hv_value.proofs.PlaceLaws.{get-put, get-put_apart, put-swap, put-twice, put-get, apart-sym}
 
 -- ---- trees without holes
 
 whole-nth : (ts : Parts) (k : ℕ) (c : ValueTree) → nth ts k ≡ Some c → all_whole ts ≡ true → is_whole c ≡ true
 whole-nth Nil k c e h = cc
-whole-nth (Cons t ts) zero c e h = let same : t ≡ c = grind (arith, e) in ap is_whole (sym same) ∙ and_left (is_whole t) (all_whole ts) h
-whole-nth (Cons t ts) (suc k) c e h = whole-nth ts k c e (and_right (is_whole t) (all_whole ts) h)
+whole-nth (Cons t ts) zero c e h = let same : t ≡ c = grind (arith, e) in ap is_whole (sym same) ∙ and_first (is_whole t) (all_whole ts) h
+whole-nth (Cons t ts) (suc k) c e h = whole-nth ts k c e (and_second (is_whole t) (all_whole ts) h)
 
 whole-part : (t : ValueTree) (s : PathStep) (c : ValueTree) → part t s ≡ Some c → is_whole t ≡ true → is_whole c ≡ true
 whole-part (Fields ts) (Field k) c e h = whole-nth ts k c e h
@@ -31,8 +31,8 @@ is_whole-get (s ∷ p) t u e h = go (is_whole-get p) (part t s) refl e
 
 whole-changed : (ts : Parts) (k : ℕ) (f : ValueTree → ValueTree) → ((c : ValueTree) → is_whole c ≡ true → is_whole (f c) ≡ true) → all_whole ts ≡ true → all_whole (change_nth ts k f) ≡ true
 whole-changed Nil k f g h = h
-whole-changed (Cons t ts) zero f g h = rw (g t (and_left (is_whole t) (all_whole ts) h)) (and_right (is_whole t) (all_whole ts) h)
-whole-changed (Cons t ts) (suc k) f g h = rw (and_left (is_whole t) (all_whole ts) h) (whole-changed ts k f g (and_right (is_whole t) (all_whole ts) h))
+whole-changed (Cons t ts) zero f g h = rw (g t (and_first (is_whole t) (all_whole ts) h)) (and_second (is_whole t) (all_whole ts) h)
+whole-changed (Cons t ts) (suc k) f g h = rw (and_first (is_whole t) (all_whole ts) h) (whole-changed ts k f g (and_second (is_whole t) (all_whole ts) h))
 
 whole-change : (t : ValueTree) (s : PathStep) (f : ValueTree → ValueTree) → ((c : ValueTree) → is_whole c ≡ true → is_whole (f c) ≡ true) → is_whole t ≡ true → is_whole (change_part t s f) ≡ true
 whole-change (Fields ts) (Field k) f g h = whole-changed ts k f g h

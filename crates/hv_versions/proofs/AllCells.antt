@@ -9,6 +9,7 @@ use Rattle.hv_versions.specs.Histories.{stripped, close, closed, changed_at, is_
 use Rattle.hv_versions.specs.States.{has, Stands, Standing}
 use Rattle.hv_versions.proofs.Changes.{differs}
 use Rattle.hv_versions.proofs.OneCell.{bool_cases, strip_low, depth_at_most, IsListed}
+use Rattle.hv_lemmas.proofs.Bools.{and_first}
 
 pub map_map : {A B C : Type 0} (f : B → C) (g : A → B) (xs : List A) → map f (map g xs) ≡ map (λ x. f (g x)) xs
 map_map f g [] = refl
@@ -223,13 +224,9 @@ kept_have d c (i ∷ is) hs s a =
     kept_step (close d c) (keeps d c) i (kept_all d c is (changed_at (close d c) i 0 hs)) (kept_at (keeps d c) i 0 hs) 0 hs (λ y. y)
     (kept_have d c is (changed_at (close d c) i 0 hs) (end_step (close d c) (keeps d c) i 0 hs s) (have_step (close d c) (keeps d c) i is 0 hs s a))
 
-and_left : (a b : Bool) → (a && b) ≡ true → a ≡ true
-and_left true b h = refl
-and_left false b h = cc
-
 have_all : (trail : List ℕ) (i : ℕ) (p : Part) (ps : List Part) (c : Closing) (hs : List History) → Standing trail i (p ∷ ps) hs → AllHave (keeps (suc (length ps)) c) (drop p.from trail) i hs
 have_all trail i p ps c [] s = tt
-have_all trail i p ps c (h ∷ hs) s = (λ y. (s.0.0 (and_left (nat_eq h.newest.depth (suc (length ps))) _ y)).listed, have_all trail (suc i) p ps c hs s.1)
+have_all trail i p ps c (h ∷ hs) s = (λ y. (s.0.0 (and_first (nat_eq h.newest.depth (suc (length ps))) _ y)).listed, have_all trail (suc i) p ps c hs s.1)
 
 ends : (d : ℕ) (c : Closing) (h : History) → (nat_eq h.newest.depth d ≡ true → nat_eq (closed c h).newest.depth d ≡ false) → Ends (close d c) (keeps d c) h
 ends d c h e = elim (bool_cases (nat_eq h.newest.depth d)) [
