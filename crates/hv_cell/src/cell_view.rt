@@ -36,6 +36,7 @@ pub enum Held<D, S> {
     Stack(S),
 }
 
+/// The rule of the cell table, where `P` says what the parties bring. No value of it is made.
 pub struct CellRule<P> {
     joined: PhantomData<P>,
 }

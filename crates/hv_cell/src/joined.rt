@@ -11,8 +11,10 @@ pub trait Joined {
     /// they are of.
     type Kin;
 
+    /// The stack that an awaiter brings.
     type Stack;
 
+    /// The result that a finisher brings.
     type Done;
 
     // The task that a result is of.

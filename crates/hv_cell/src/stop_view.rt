@@ -26,6 +26,7 @@ pub struct StopView<K> {
     pub of: Badge<()>,
 }
 
+/// The rule of the stop table: one word of reasons, and seats that hold no slot. No value of it is made.
 pub struct StopRule;
 
 impl<K> TableRule<(), StopView<K>, K> for StopRule {

@@ -11,6 +11,7 @@ pub struct StaticPath {
     pub steps: Items<StaticStep>,
 }
 
+/// A step as far as it is known before the program runs: two literal indices can be told apart, others can't.
 #[derive(Clone, Copy, Debug, PartialEq, Eq)]
 pub enum StaticStep {
     /// The field with this number.

@@ -8,12 +8,16 @@ use std::alloc::{AllocError, Global};
 
 const LIMIT: usize = 1048577;
 
+/// Why a file isn't read.
 #[derive(Clone, Copy, Debug, PartialEq, Eq)]
 pub enum ReadEnd {
+    /// It can't be opened, or a read of it failed.
     Fault,
+    /// There is no memory for its name or its bytes.
     Memory,
 }
 
+/// All bytes, but at most 1,048,577: one more than a source may have tells that it is too long.
 pub fn read_file<S: Source>(alloc: Global, file: &str, src: &mut S) -> Result<Vec<u8>, ReadEnd>
     requires { S.asked src.old ≡ None }
     ensures bytes { IfOk result (λ v. ReadsFile (S.files src.old file.now) (S.left src.new) v.items) }

@@ -8,6 +8,7 @@ pub struct FlowGraph {
     pub nodes: Items<Node>,
 }
 
+/// An event of a body, and its place in the source.
 #[derive(Drop)]
 pub struct Node {
     pub event: FlowEvent,

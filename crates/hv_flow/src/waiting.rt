@@ -16,10 +16,15 @@ pub struct Part {
 /// An operator some of whose parts aren't there yet.
 #[derive(Drop)]
 pub enum Frame {
+    /// A `Then` whose first part is being read.
     Before,
+    /// A `Then` with its first part, whose second is being read.
     Behind(Part),
+    /// An `Either` whose first part is being read.
     OneSide,
+    /// An `Either` with its first part, whose second is being read.
     OtherSide(Part),
+    /// A `Loop` whose part is being read.
     Turn,
 }
 
@@ -39,6 +44,7 @@ impl Model for Waiting {
 }
 
 impl Waiting {
+    /// No operator waits, which takes no memory.
     pub fn new(alloc: Global) -> Waiting
         ensures { result ≡ [] }
     {
@@ -47,6 +53,7 @@ impl Waiting {
         }
     }
 
+    /// One more waits, as the innermost.
     #[tactic(auto, using(hv_lemmas::proofs::Reversed::stacked))]
     pub fn push(&mut self, frame: Frame) -> Result<(), NoMemory>
         ensures { OnOk result (self.new ≡ frame ∷ self.old) }
@@ -55,6 +62,7 @@ impl Waiting {
         Ok(())
     }
 
+    /// The innermost waits no longer.
     #[tactic(auto, using(hv_lemmas::proofs::Reversed::stacked))]
     pub fn pop(&mut self) -> Option<Frame>
         ensures { MatchOption result ((self.old ≡ []) × (self.new ≡ [])) (λ frame. self.old ≡ frame ∷ self.new) }

@@ -14,6 +14,7 @@ use hv_tree::{Name, Operator, Place, Text, Token, TokenKind};
 use std::alloc::Global;
 use std::marker::Model;
 
+/// The tokens that are still to be read. Contracts see them as a list.
 #[derive(Drop)]
 pub struct Cursor<'a> {
     rest: &'a [Token],
@@ -28,12 +29,14 @@ impl<'a> Model for Cursor<'a> {
 }
 
 impl<'a> Cursor<'a> {
+    /// Stands at the first of these tokens, which are only lent.
     pub fn new(rest: &'a [Token]) -> Cursor<'a>
         ensures { result ≡ rest.now }
     {
         Cursor { rest }
     }
 
+    /// Whether the next token is this mark, as `(`.
     pub fn sees_mark(&self, spelling: &str) -> bool
         ensures { result ≡ passes (is_mark spelling.now) self.now }
     {
@@ -46,6 +49,7 @@ impl<'a> Cursor<'a> {
         }
     }
 
+    /// Whether the next token is this keyword, as `while`.
     pub fn sees_keyword(&self, spelling: &str) -> bool
         ensures { result ≡ passes (is_keyword spelling.now) self.now }
     {
@@ -58,6 +62,7 @@ impl<'a> Cursor<'a> {
         }
     }
 
+    /// Whether the next token is a word; a keyword is none.
     pub fn sees_word(&self) -> bool
         ensures { result ≡ passes is_word self.now }
     {
@@ -67,6 +72,7 @@ impl<'a> Cursor<'a> {
         }
     }
 
+    /// Whether the next token is a number; a `-` before one is a token of its own.
     pub fn sees_number(&self) -> bool
         ensures { result ≡ passes is_number self.now }
     {
@@ -76,6 +82,7 @@ impl<'a> Cursor<'a> {
         }
     }
 
+    /// Passes this mark and gives its place; another token is `Off`, and the cursor stays.
     #[tactic(auto, using(crate::proofs::Steps::expect_none, crate::proofs::Steps::expect_some))]
     pub fn mark(&mut self, spelling: &str) -> Result<Place, Stop>
         ensures { Reads (expect (is_mark spelling.now) place_at self.old) result self.new }
@@ -92,6 +99,7 @@ impl<'a> Cursor<'a> {
         }
     }
 
+    /// Passes this keyword and gives its place; another token is `Off`, and the cursor stays.
     #[tactic(auto, using(crate::proofs::Steps::expect_none, crate::proofs::Steps::expect_some))]
     pub fn keyword(&mut self, spelling: &str) -> Result<Place, Stop>
         ensures { Reads (expect (is_keyword spelling.now) place_at self.old) result self.new }
@@ -108,6 +116,7 @@ impl<'a> Cursor<'a> {
         }
     }
 
+    /// Passes this bracket where `room` more may be open; with a room of 0 it is `Deep`, another token is `Off`.
     #[tactic(auto, using(crate::proofs::Steps::opening_none, crate::proofs::Steps::opening_full, crate::proofs::Steps::opening_some))]
     pub fn opening(&mut self, room: usize, spelling: &str) -> Result<Place, Stop>
         ensures room { IfOk result (λ _. 0 < room) }
@@ -128,6 +137,7 @@ impl<'a> Cursor<'a> {
         }
     }
 
+    /// Passes a word and copies its text; another token is `Off`, and the cursor stays.
     #[tactic(auto, using(crate::proofs::Steps::expect_none, crate::proofs::Steps::expect_some))]
     pub fn word(&mut self, alloc: Global) -> Result<Name, Stop>
         ensures { Reads (expect is_word name_of self.old) result self.new }
@@ -148,6 +158,7 @@ impl<'a> Cursor<'a> {
         }
     }
 
+    /// Passes a number and gives its value and place; another token is `Off`, and the cursor stays.
     #[tactic(auto, using(crate::proofs::Steps::expect_none, crate::proofs::Steps::expect_some))]
     pub fn number(&mut self) -> Result<(i64, Place), Stop>
         ensures { Reads (expect is_number number_of self.old) result self.new }
@@ -164,12 +175,14 @@ impl<'a> Cursor<'a> {
         }
     }
 
+    /// How many tokens are still to be read.
     pub fn left(&self) -> usize
         ensures { result ≡ length self.now }
     {
         self.rest.len()
     }
 
+    /// The next token as a binary operator of the level; the cursor stays.
     pub fn infix(&self, strength: Strength) -> Option<Operator>
         ensures { result ≡ next_infix (level_of strength) self.now }
     {
@@ -182,12 +195,14 @@ impl<'a> Cursor<'a> {
         }
     }
 
+    /// Whether the next token is a binary operator of the level.
     pub fn sees_infix(&self, strength: Strength) -> bool
         ensures { result ≡ passes (is_infix (level_of strength)) self.now }
     {
         self.infix(strength).is_some()
     }
 
+    /// Passes a binary operator of the level and gives its place; at anything else the cursor stays.
     pub fn take_infix(&mut self, strength: Strength) -> Option<(Operator, Place)>
         ensures { MatchOption result ((passes (is_infix (level_of strength)) self.old ≡ false) × (self.new ≡ self.old)) (λ found. (k : Token) × (self.old ≡ k ∷ self.new) × (is_infix (level_of strength) k ≡ true) × (found.0 ≡ operator_of (level_of strength) k) × (found.1 ≡ k.place)) }
     {

@@ -5,15 +5,22 @@ ghost use Rattle.hv_grammar.specs.Levels.{level_of, infixes, entry};
 
 use hv_tree::Operator;
 
+/// A level of binary operators, from loose to tight.
 #[derive(Clone, Copy, Debug, PartialEq, Eq)]
 pub enum Strength {
+    /// `||`.
     Or,
+    /// `&&`.
     And,
+    /// `==`, `!=`, `<`, `<=`, `>`, `>=`.
     Comparison,
+    /// `+`, `-`.
     Sum,
+    /// `*`, `/`, `%`.
     Product,
 }
 
+/// The binary operator with this spelling, if it is of the level; `-` is `Sub` here and never `Neg`.
 pub fn infix(strength: Strength, text: &str) -> Option<Operator>
     ensures { result ≡ entry (infixes (level_of strength)) text.now }
 {

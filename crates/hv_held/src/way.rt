@@ -32,6 +32,7 @@ pub enum Way {
 }
 
 // Where one step leads.
+/// A step of a `Way`: onto a part that is only lent, or why there is none.
 #[derive(Clone, Copy)]
 pub enum Stepped<'h> {
     Onto(PathStep, &'h Held),

@@ -32,12 +32,14 @@ impl<T> Items<T> {
         }
     }
 
+    /// Takes the vector over; no element is copied.
     pub fn from_vec(list: Vec<T>) -> Items<T>
         ensures { result ≡ list.items }
     {
         Items { list }
     }
 
+    /// Gives the vector out; no element is copied.
     pub fn into_vec(self) -> Vec<T>
         ensures { result.items ≡ self }
     {
@@ -45,24 +47,28 @@ impl<T> Items<T> {
         list
     }
 
+    /// Lends all elements, in order.
     pub fn as_slice(&self) -> &[T]
         ensures { result.now ≡ self.now }
     {
         self.list.as_slice()
     }
 
+    /// How many elements there are; room for more isn't counted.
     pub fn len(&self) -> usize
         ensures { result ≡ length self.now }
     {
         self.list.len()
     }
 
+    /// Whether there is no element; there may still be room for some.
     pub fn is_empty(&self) -> bool
         ensures { IsTrue result ↔ (self.now ≡ []) }
     {
         self.list.is_empty()
     }
 
+    /// Lends the element at an index from 0.
     pub fn get(&self, at: usize) -> Option<&T>
         ensures value { option_copied result ≡ slice_get self.now at }
         ensures within { OnSome result (at < length self.now) }
@@ -79,6 +85,7 @@ impl<T> Items<T> {
         mem::replace(&mut self.list[at], item)
     }
 
+    /// Takes the last element off and hands it out.
     pub fn pop(&mut self) -> Option<T>
         ensures { MatchOption result ((self.old ≡ []) × (self.new ≡ [])) (λ last. self.old ≡ self.new ++ last ∷ []) }
     {

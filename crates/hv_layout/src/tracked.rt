@@ -45,6 +45,7 @@ fn counts_of(alloc: Global, flags: &[bool]) -> Result<Items<u32>, NoMemory>
 }
 
 impl Tracked {
+    /// A flag for each local, in order. More than a `u32` counts are want of memory.
     pub fn of(alloc: Global, flags: Items<bool>) -> Result<Tracked, NoMemory>
         ensures { IfOk result (λ t. t ≡ flags) }
     {

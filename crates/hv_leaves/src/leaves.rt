@@ -22,6 +22,7 @@ pub struct Leaves {
 }
 
 impl Leaves {
+    /// Counts by the sizes of the program's structs. More leaves than a `u32` counts are want of memory.
     #[tactic(auto, using(crate::proofs::Ranges::are_leaves))]
     pub fn of(
         alloc: Global,

@@ -10,8 +10,10 @@ use hv_pass::Range;
 use hv_decls::StaticStep;
 use std::alloc::AllocError as NoMemory;
 
+/// What the fields of a path lead to.
 #[derive(Clone, Copy)]
 pub enum Reached {
+    /// A local, or a part of one.
     Part(Part),
     /// There are no such fields; so many leaves come before.
     Nothing(u32),

@@ -75,6 +75,7 @@ fn scoped_of<'t>(alloc: Global, bodies: Vec<Body<'t>>) -> Result<Items<Scoped<'t
 }
 
 impl<'t> Program<'t> {
+    /// The tree is only lent; its bodies and the locals of each are found once.
     pub fn new(alloc: Global, tree: &'t Tree) -> Result<Program<'t>, NoMemory>
         ensures { IfOk result (λ p. p ≡ tree.now) }
     {
@@ -89,6 +90,7 @@ impl<'t> Program<'t> {
         })
     }
 
+    /// The declarations, found by name.
     pub fn declared(&self) -> &Declared<'t>
         ensures { result.now ≡ self.now }
     {

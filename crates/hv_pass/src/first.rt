@@ -10,6 +10,7 @@ pub fn is_before(x: Refusal, y: Refusal) -> bool
     x.place.start < y.place.start || x.place.start == y.place.start && x.rule < y.rule
 }
 
+/// The one at the lesser place, at one place the one with the lesser rule; of two that are alike `a`.
 pub fn earlier(a: Option<Refusal>, b: Option<Refusal>) -> Option<Refusal>
     ensures { result ≡ spec.earlier a b }
 {

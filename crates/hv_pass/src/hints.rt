@@ -14,12 +14,14 @@ pub struct Hint {
 }
 
 impl Hint {
+    /// Where this value of the cell may have been asked for last.
     pub fn of(self, value: bool) -> usize
         ensures { result ≡ spec.index_of value self }
     {
         if value { self.yes } else { self.no }
     }
 
+    /// The other value keeps its index.
     pub fn with(self, value: bool, index: usize) -> Hint
         ensures { result ≡ spec.with_index value index self }
     {
@@ -48,6 +50,7 @@ pub fn start(alloc: Global, count: usize) -> Result<Items<Hint>, NoMemory>
     Ok(all)
 }
 
+/// 0 where no such cell is, as where nothing was asked.
 pub fn at(hints: &Items<Hint>, cell: usize, value: bool) -> usize
     ensures { result ≡ spec.hint_at hints.now cell value }
 {
@@ -57,6 +60,7 @@ pub fn at(hints: &Items<Hint>, cell: usize, value: bool) -> usize
     }
 }
 
+/// Where no such cell is, nothing changes.
 pub fn put(hints: &mut Items<Hint>, cell: usize, value: bool, index: usize)
     ensures { hints.new ≡ spec.hint_put cell value index hints.old }
 {

@@ -16,8 +16,11 @@ pub struct Known {
 /// versions.
 #[derive(Drop)]
 pub enum Frame {
+    /// A `Then` in its first part.
     Before,
+    /// An `Either` in its first part.
     OneSide,
+    /// An `Either` in its second part.
     OtherSide,
     /// With what was asked around the loop.
     Turn(Items<Entry>),

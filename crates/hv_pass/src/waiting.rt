@@ -21,6 +21,7 @@ impl Model for Waiting {
 }
 
 impl Waiting {
+    /// No operator waits, which takes no memory.
     pub fn new(alloc: Global) -> Waiting
         ensures { result ≡ [] }
     {
@@ -29,6 +30,7 @@ impl Waiting {
         }
     }
 
+    /// One more waits, as the innermost.
     #[tactic(auto, using(hv_lemmas::proofs::Reversed::stacked))]
     pub fn push(&mut self, frame: Frame) -> Result<(), NoMemory>
         ensures { OnOk result (self.new ≡ frame ∷ self.old) }
@@ -37,6 +39,7 @@ impl Waiting {
         Ok(())
     }
 
+    /// The innermost waits no longer.
     #[tactic(auto, using(hv_lemmas::proofs::Reversed::stacked))]
     pub fn pop(&mut self) -> Option<Frame>
         ensures { MatchOption result ((self.old ≡ []) × (self.new ≡ [])) (λ frame. self.old ≡ frame ∷ self.new) }

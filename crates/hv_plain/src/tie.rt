@@ -25,6 +25,7 @@ pub fn ended(task: &Task, returned: &Option<Ty>, flow: Option<Held>) -> Result<O
     }
 }
 
+/// Evaluates parts at one nesting less; without one left it is want of memory. `used` references are in use.
 #[cycle(levels)]
 pub fn eval_to<'a>(level: Level<'a>, used: usize, task: &mut Task, x: &Expr) -> Result<Held, Halt>
     ensures { Gives held_tree (from (value_in level.entry x.now) used task.old) result task.new }
@@ -43,6 +44,7 @@ pub fn eval_to<'a>(level: Level<'a>, used: usize, task: &mut Task, x: &Expr) -> 
     value(&parts, used, task, x)
 }
 
+/// The same for a block: `Some` where a `return` left it; that of `return` alone is a struct without fields.
 #[cycle(levels)]
 pub fn block_to<'a>(
     level: Level<'a>,

@@ -10,11 +10,17 @@ use hv_tree::{Conv, Operator};
 /// What is done with a place.
 #[derive(Clone, Copy)]
 pub enum Doing {
+    /// It is read and copied.
     Use,
+    /// It is moved out.
     Move,
+    /// It gets a value.
     Init,
+    /// An access that reads it begins.
     Read,
+    /// An access that changes it begins.
     Write,
+    /// An access that fills it begins.
     Set,
 }
 
@@ -27,6 +33,7 @@ pub enum Way {
     Spawning,
 }
 
+/// The event of it at this place.
 pub fn done(doing: Doing, path: StaticPath) -> FlowEvent
     ensures { result ≡ done_by doing path }
 {

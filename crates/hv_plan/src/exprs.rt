@@ -45,6 +45,7 @@ pub fn push_root<'s, 't>(
     plan.push(FlowOp::Do(done(doing, path), root.place))
 }
 
+/// `await handle`: the event `Await` at the place `at`, and none where no local has the name.
 pub fn push_await<'s, 't>(
     scope: &Scope<'s, 't>,
     plan: &mut Items<FlowOp>,
@@ -115,6 +116,7 @@ fn is_local<'s, 't>(scope: &Scope<'s, 't>, name: &Name) -> bool
     }
 }
 
+/// The events of an expression from left to right. A place is treated as `doing` says.
 #[cycle(exprs)]
 #[tactic(auto, using(crate::proofs::ExprPlans::expr_int, crate::proofs::ExprPlans::expr_bool, crate::proofs::ExprPlans::expr_path, crate::proofs::ExprPlans::expr_call, crate::proofs::ExprPlans::expr_await, crate::proofs::ExprPlans::expr_array_lit, crate::proofs::ExprPlans::expr_filled, crate::proofs::ExprPlans::expr_count, crate::proofs::ExprPlans::expr_lambda, crate::proofs::ExprPlans::expr_prefix, crate::proofs::ExprPlans::expr_chain))]
 pub fn push_expr<'s, 't>(
@@ -235,6 +237,7 @@ fn push_index<'s, 't>(
     }
 }
 
+/// The events of the indices in order, and then, at the root's name, what is done with the place.
 #[cycle(exprs)]
 pub fn push_place<'s, 't>(
     alloc: Global,
@@ -257,6 +260,7 @@ pub fn push_place<'s, 't>(
     )
 }
 
+/// The callee is used, then each argument is passed. The accesses of arguments close at the place of the `(`.
 #[cycle(exprs)]
 #[tactic(auto, using(crate::proofs::ExprPlans::call_opened))]
 pub fn push_call<'s, 't>(

@@ -15,6 +15,7 @@ use hv_rules::FlowEvent;
 use hv_tree::{Block, Branch, Call, Expr, Name, Place, PlaceExpr, Stmt, StmtKind};
 use std::alloc::{AllocError as NoMemory, Global};
 
+/// The number of the next local; behind the greatest `u32` it is want of memory.
 pub fn after(next: u32) -> Result<u32, NoMemory>
     ensures { IfOk result (λ n. n ≡ next + 1) }
 {
@@ -22,6 +23,7 @@ pub fn after(next: u32) -> Result<u32, NoMemory>
 }
 
 // Declare and Init of the next local.
+/// Both stand at the name, and cover all of the local.
 pub fn push_declared(
     alloc: Global,
     plan: &mut Items<FlowOp>,
@@ -44,6 +46,7 @@ pub fn push_declared(
 }
 
 // The end of the block whose first local has this number.
+/// The event stands at `end`, where the block's `}` is.
 pub fn push_end(plan: &mut Items<FlowOp>, first: u32, end: Place) -> Result<(), NoMemory>
     ensures { OnOk result (plan.new ≡ plan.old ++ op.Do (event.ScopeEnd first) end ∷ []) }
 {
@@ -158,6 +161,7 @@ fn push_task<'s, 't>(
     Ok(())
 }
 
+/// The events of a statement; `next` moves past the locals that it declares, in blocks too.
 #[cycle(stmts)]
 #[tactic(auto, using(crate::proofs::VariantPlans::stmt_var, crate::proofs::VariantPlans::stmt_let, crate::proofs::VariantPlans::stmt_inout, crate::proofs::VariantPlans::stmt_assign, crate::proofs::VariantPlans::stmt_if, crate::proofs::VariantPlans::stmt_while, crate::proofs::VariantPlans::stmt_return, crate::proofs::VariantPlans::stmt_print, crate::proofs::VariantPlans::stmt_task, crate::proofs::VariantPlans::stmt_await, crate::proofs::VariantPlans::stmt_call, crate::proofs::VariantPlans::stmt_block, crate::proofs::VariantPlans::count_var, crate::proofs::VariantPlans::count_let, crate::proofs::VariantPlans::count_inout, crate::proofs::VariantPlans::count_assign, crate::proofs::VariantPlans::count_if, crate::proofs::VariantPlans::count_while, crate::proofs::VariantPlans::count_return, crate::proofs::VariantPlans::count_print, crate::proofs::VariantPlans::count_task, crate::proofs::VariantPlans::count_await, crate::proofs::VariantPlans::count_call, crate::proofs::VariantPlans::count_block))]
 pub fn push_stmt<'s, 't>(
@@ -199,6 +203,7 @@ pub fn push_stmt<'s, 't>(
     }
 }
 
+/// The events of statements, one after the other.
 #[cycle(stmts)]
 pub fn push_stmts<'s, 't>(
     alloc: Global,

@@ -28,6 +28,7 @@ impl<'r, R: Files + Input> Model for FileSource<'r, R> {
 }
 
 impl<'r, R: Files + Input> FileSource<'r, R> {
+    /// Opens nothing yet.
     pub fn new(rt: &'r R) -> FileSource<'r, R>
         ensures { result ≡ record { asked = None; faults = 0 } }
     {
@@ -96,6 +97,7 @@ pub struct StdSink<'r, R: Print> {
 }
 
 impl<'r, R: Print> StdSink<'r, R> {
+    /// Counts no fault yet.
     pub fn new(rt: &'r R) -> StdSink<'r, R> {
         StdSink { rt, faults: 0 }
     }

@@ -37,6 +37,7 @@ impl<'t> Model for Declared<'t> {
 }
 
 impl<'t> Declared<'t> {
+    /// The tree is only lent; memory goes to what names are found by. Names that stand twice are no error here.
     pub fn new(alloc: Global, tree: &'t Tree) -> Result<Declared<'t>, NoMemory>
         ensures { IfOk result (λ d. d ≡ tree.now) }
     {
@@ -61,6 +62,7 @@ impl<'t> Declared<'t> {
         self.structs.find(text)
     }
 
+    /// The first struct with the name.
     pub fn find_struct(&self, text: &str) -> Option<&'t StructDecl>
         ensures { option_struct (option_copied result) ≡ struct_in (core_tree self.now).decls text.now }
     {
@@ -80,6 +82,7 @@ impl<'t> Declared<'t> {
         }
     }
 
+    /// The first function with the name; a struct with the name isn't looked at.
     pub fn find_function(&self, text: &str) -> Option<&'t FunDecl>
         ensures { option_function (option_copied result) ≡ fun_in (core_tree self.now).decls text.now }
     {

@@ -34,6 +34,7 @@ impl<'t> Model for Functions<'t> {
 }
 
 impl<'t> Functions<'t> {
+    /// The functions among the declarations; of two with one name both count.
     pub fn of(alloc: Global, decls: &'t [Decl]) -> Result<Functions<'t>, NoMemory>
         ensures { IfOk result (λ f. f ≡ fun_decls decls.now) }
     {

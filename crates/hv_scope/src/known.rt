@@ -6,13 +6,20 @@ ghost use Rattle.hv_scope.specs.Known.{local_by, typed};
 
 use hv_tree::{Conv, Name, Ty};
 
+/// What declares a local.
 #[derive(Clone, Copy)]
 pub enum Kind {
+    /// `a` in the `[a, b]` of a lambda.
     Captured,
+    /// A parameter, with its convention.
     Passed(Conv),
+    /// `var x: T`, with or without a value.
     Var,
+    /// `let x: T = e`.
     Let,
+    /// `inout x: T = &p`.
     Inout,
+    /// `task h = spawn(e) f(x)`; its type, where one is written, is that of the task's result.
     Handle,
 }
 

@@ -46,6 +46,7 @@ impl<'t> Locals<'t> {
         })
     }
 
+    /// Lends them in the order of their declarations, by which they are numbered.
     pub fn as_slice(&self) -> &[Known<'t>]
         ensures { result.now ≡ self.now }
     {

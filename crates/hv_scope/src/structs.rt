@@ -65,6 +65,7 @@ fn find_named<'t>(
 }
 
 impl<'t> Structs<'t> {
+    /// The structs among the declarations; of two with one name both count.
     pub fn of(alloc: Global, decls: &'t [Decl]) -> Result<Structs<'t>, NoMemory>
         ensures { IfOk result (λ s. s ≡ struct_decls decls.now) }
     {
@@ -85,6 +86,7 @@ impl<'t> Structs<'t> {
         })
     }
 
+    /// Lends them in the order of their declarations, by which they are numbered.
     pub fn as_slice(&self) -> &[&'t StructDecl]
         ensures { map (λ d. d.now) result.now ≡ self.now }
     {
@@ -98,6 +100,7 @@ impl<'t> Structs<'t> {
         self.names.find(text)
     }
 
+    /// The struct with this number, counted from 0.
     pub fn get(&self, number: usize) -> Option<&'t StructDecl>
         ensures { option_copied result ≡ slice_get self.now number }
     {

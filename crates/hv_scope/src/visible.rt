@@ -35,6 +35,7 @@ impl<'t> Model for Visible<'t> {
 }
 
 impl<'t> Visible<'t> {
+    /// No local is visible, which takes no memory.
     pub fn new(alloc: Global) -> Visible<'t>
         ensures { result ≡ [] }
     {
@@ -44,12 +45,14 @@ impl<'t> Visible<'t> {
         }
     }
 
+    /// How many there are; one that is hidden counts too.
     pub fn len(&self) -> usize
         ensures { result ≡ length self.now }
     {
         self.list.len()
     }
 
+    /// Declares a local, which hides an older one with its name.
     pub fn push(&mut self, known: Known<'t>) -> Result<(), NoMemory>
         ensures { OnOk result (self.new ≡ known.entry ∷ self.old) }
     {

@@ -4,6 +4,7 @@ ghost use Rattle.hv_steady.specs.Standings as spec;
 
 use hv_items::Items;
 
+/// Unless it is `Filled`, the local needs a state.
 #[derive(Clone, Copy)]
 pub enum Standing {
     /// Its declaration gives it no value.

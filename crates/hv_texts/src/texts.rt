@@ -45,6 +45,7 @@ impl<'a> Texts<'a> {
         Texts::new(self.alloc)
     }
 
+    /// How many texts there are; one that stands twice counts twice.
     pub fn len(&self) -> usize
         ensures { result ≡ length self.now }
     {
@@ -58,6 +59,7 @@ impl<'a> Texts<'a> {
         self.firsts.get(text).copied()
     }
 
+    /// Whether the text is there, by its hash.
     pub fn has(&self, text: &str) -> bool
         ensures { result ≡ has self.now text.now }
     {

@@ -16,6 +16,7 @@ use crate::{
 use hv_items::{Boxed, Items};
 use std::alloc::{AllocError as NoMemory, Global};
 
+/// `decls` in the order of the source.
 pub fn tree(_alloc: Global, decls: Vec<Decl>) -> Result<Tree, NoMemory>
     ensures { IfOk result (λ part. part ≡ record { decls = decls.items }) }
 {
@@ -24,18 +25,21 @@ pub fn tree(_alloc: Global, decls: Vec<Decl>) -> Result<Tree, NoMemory>
     })
 }
 
+/// `struct P { .. }` among the declarations.
 pub fn decl_struct(_alloc: Global, declared: StructDecl) -> Result<Decl, NoMemory>
     ensures { IfOk result (λ part. part ≡ Decl.Struct declared) }
 {
     Ok(Decl::Struct(declared))
 }
 
+/// `fun f(..) { .. }` among the declarations.
 pub fn decl_fun(_alloc: Global, declared: FunDecl) -> Result<Decl, NoMemory>
     ensures { IfOk result (λ part. part ≡ Decl.Fun declared) }
 {
     Ok(Decl::Fun(declared))
 }
 
+/// `text` isn't tested to be a word; `place` is its first byte.
 pub fn name(_alloc: Global, text: String, place: Place) -> Result<Name, NoMemory>
     ensures { IfOk result (λ part. part ≡ record { text = string_bytes text; place = place }) }
 {
@@ -45,6 +49,7 @@ pub fn name(_alloc: Global, text: String, place: Place) -> Result<Name, NoMemory
     })
 }
 
+/// `struct name { fields }`.
 pub fn struct_decl(_alloc: Global, name: Name, fields: Vec<Field>) -> Result<StructDecl, NoMemory>
     ensures { IfOk result (λ part. part ≡ record { name = name; fields = fields.items }) }
 {
@@ -54,18 +59,21 @@ pub fn struct_decl(_alloc: Global, name: Name, fields: Vec<Field>) -> Result<Str
     })
 }
 
+/// `var name: ty` in a struct.
 pub fn field(_alloc: Global, name: Name, ty: Ty) -> Result<Field, NoMemory>
     ensures { IfOk result (λ part. part ≡ record { name = name; ty = ty }) }
 {
     Ok(Field { name, ty })
 }
 
+/// `name: conv ty`; `name: ty` has the convention `Let`.
 pub fn param(_alloc: Global, name: Name, conv: Conv, ty: Ty) -> Result<Param, NoMemory>
     ensures { IfOk result (λ part. part ≡ record { name = name; conv = conv; ty = ty }) }
 {
     Ok(Param { name, conv, ty })
 }
 
+/// `fun name(params) -> returned body`; `None` where no `->` stands.
 pub fn fun_decl(
     _alloc: Global,
     name: Name,
@@ -83,24 +91,28 @@ pub fn fun_decl(
     })
 }
 
+/// `Int`, whose `I` is at the place.
 pub fn ty_int(_alloc: Global, place: Place) -> Result<Ty, NoMemory>
     ensures { IfOk result (λ part. part ≡ Ty.Int place) }
 {
     Ok(Ty::Int(place))
 }
 
+/// `Bool`, whose `B` is at the place.
 pub fn ty_bool(_alloc: Global, place: Place) -> Result<Ty, NoMemory>
     ensures { IfOk result (λ part. part ≡ Ty.Bool place) }
 {
     Ok(Ty::Bool(place))
 }
 
+/// `P`; whether there is such a struct isn't asked.
 pub fn ty_named(_alloc: Global, name: Name) -> Result<Ty, NoMemory>
     ensures { IfOk result (λ part. part ≡ Ty.Named name) }
 {
     Ok(Ty::Named(name))
 }
 
+/// `[element]`, whose `[` is at the place. Takes memory for the element.
 pub fn ty_array(alloc: Global, place: Place, element: Ty) -> Result<Ty, NoMemory>
     ensures { IfOk result (λ part. part ≡ Ty.Array place element) }
 {
@@ -108,6 +120,7 @@ pub fn ty_array(alloc: Global, place: Place, element: Ty) -> Result<Ty, NoMemory
     Ok(Ty::Array(place, element))
 }
 
+/// `fun(params) -> returned`, whose word `fun` is at the place. Takes memory for a result.
 pub fn ty_fun(
     alloc: Global,
     place: Place,
@@ -123,6 +136,7 @@ pub fn ty_fun(
     Ok(Ty::Fun(place, Items::from_vec(params), returned))
 }
 
+/// `{ stmts }`, whose `}` is at `end`.
 pub fn block(_alloc: Global, stmts: Vec<Stmt>, end: Place) -> Result<Block, NoMemory>
     ensures { IfOk result (λ part. part ≡ roll-Block (record { stmts = stmts.items; end = end })) }
 {
@@ -132,12 +146,14 @@ pub fn block(_alloc: Global, stmts: Vec<Stmt>, end: Place) -> Result<Block, NoMe
     })
 }
 
+/// `place` is that of the first token: of an assignment it is the `&`.
 pub fn stmt(_alloc: Global, place: Place, kind: StmtKind) -> Result<Stmt, NoMemory>
     ensures { IfOk result (λ part. part ≡ roll-Stmt (record { place = place; kind = kind })) }
 {
     Ok(Stmt { place, kind })
 }
 
+/// `var name: ty = value`; `None` for `var name: ty`.
 pub fn stmt_kind_var(
     _alloc: Global,
     name: Name,
@@ -149,12 +165,14 @@ pub fn stmt_kind_var(
     Ok(StmtKind::Var(name, ty, value))
 }
 
+/// `let name: ty = value`.
 pub fn stmt_kind_let(_alloc: Global, name: Name, ty: Ty, value: Expr) -> Result<StmtKind, NoMemory>
     ensures { IfOk result (λ part. part ≡ StmtKind.Let name ty value) }
 {
     Ok(StmtKind::Let(name, ty, value))
 }
 
+/// `inout name: ty = &place`.
 pub fn stmt_kind_inout(
     _alloc: Global,
     name: Name,
@@ -166,12 +184,14 @@ pub fn stmt_kind_inout(
     Ok(StmtKind::Inout(name, ty, place))
 }
 
+/// `&place = value`.
 pub fn stmt_kind_assign(_alloc: Global, place: PlaceExpr, value: Expr) -> Result<StmtKind, NoMemory>
     ensures { IfOk result (λ part. part ≡ StmtKind.Assign place value) }
 {
     Ok(StmtKind::Assign(place, value))
 }
 
+/// `if`, each `else if` and the last `else`; the source has at least one branch.
 pub fn stmt_kind_if(
     _alloc: Global,
     branches: Vec<Branch>,
@@ -182,30 +202,35 @@ pub fn stmt_kind_if(
     Ok(StmtKind::If(Items::from_vec(branches), otherwise))
 }
 
+/// `if test body`, also behind an `else`.
 pub fn branch(_alloc: Global, test: Expr, body: Block) -> Result<Branch, NoMemory>
     ensures { IfOk result (λ part. part ≡ roll-Branch (record { test = test; body = body })) }
 {
     Ok(Branch { test, body })
 }
 
+/// `while test body`.
 pub fn stmt_kind_while(_alloc: Global, test: Expr, body: Block) -> Result<StmtKind, NoMemory>
     ensures { IfOk result (λ part. part ≡ StmtKind.While test body) }
 {
     Ok(StmtKind::While(test, body))
 }
 
+/// `return value`; `None` for `return`.
 pub fn stmt_kind_return(_alloc: Global, value: Option<Expr>) -> Result<StmtKind, NoMemory>
     ensures { IfOk result (λ part. part ≡ StmtKind.Return value) }
 {
     Ok(StmtKind::Return(value))
 }
 
+/// `print(value)`.
 pub fn stmt_kind_print(_alloc: Global, value: Expr) -> Result<StmtKind, NoMemory>
     ensures { IfOk result (λ part. part ≡ StmtKind.Print value) }
 {
     Ok(StmtKind::Print(value))
 }
 
+/// `task handle: ty = spawn(budget) call`; `spawn` is the place of that word.
 pub fn stmt_kind_task(
     _alloc: Global,
     handle: Name,
@@ -219,24 +244,28 @@ pub fn stmt_kind_task(
     Ok(StmtKind::Task(handle, ty, spawn, budget, call))
 }
 
+/// `await handle` as a statement of its own.
 pub fn stmt_kind_await(_alloc: Global, handle: Name) -> Result<StmtKind, NoMemory>
     ensures { IfOk result (λ part. part ≡ StmtKind.Await handle) }
 {
     Ok(StmtKind::Await(handle))
 }
 
+/// `f(x)` as a statement of its own.
 pub fn stmt_kind_call(_alloc: Global, call: Call) -> Result<StmtKind, NoMemory>
     ensures { IfOk result (λ part. part ≡ StmtKind.Call call) }
 {
     Ok(StmtKind::Call(call))
 }
 
+/// `{ .. }` among statements.
 pub fn stmt_kind_block(_alloc: Global, block: Block) -> Result<StmtKind, NoMemory>
     ensures { IfOk result (λ part. part ≡ StmtKind.Block block) }
 {
     Ok(StmtKind::Block(block))
 }
 
+/// `root` and then `steps`, as `x[i].f`; without steps the name alone.
 pub fn place_expr(_alloc: Global, root: Name, steps: Vec<Step>) -> Result<PlaceExpr, NoMemory>
     ensures { IfOk result (λ part. part ≡ roll-PlaceExpr (record { root = root; steps = steps.items })) }
 {
@@ -246,18 +275,21 @@ pub fn place_expr(_alloc: Global, root: Name, steps: Vec<Step>) -> Result<PlaceE
     })
 }
 
+/// `.name`.
 pub fn step_field(_alloc: Global, name: Name) -> Result<Step, NoMemory>
     ensures { IfOk result (λ part. part ≡ Step.Field name) }
 {
     Ok(Step::Field(name))
 }
 
+/// `[index]`, whose `[` is at `bracket`.
 pub fn step_index(_alloc: Global, bracket: Place, index: Expr) -> Result<Step, NoMemory>
     ensures { IfOk result (λ part. part ≡ Step.Index bracket index) }
 {
     Ok(Step::Index(bracket, index))
 }
 
+/// `callee(args)`, whose `(` is at `paren`.
 pub fn call(
     _alloc: Global,
     callee: PlaceExpr,
@@ -273,60 +305,70 @@ pub fn call(
     })
 }
 
+/// `value`, without a `&`.
 pub fn arg_value(_alloc: Global, value: Expr) -> Result<Arg, NoMemory>
     ensures { IfOk result (λ part. part ≡ Arg.Value value) }
 {
     Ok(Arg::Value(value))
 }
 
+/// `&place`, whose `&` is at `ampersand`.
 pub fn arg_ref(_alloc: Global, ampersand: Place, place: PlaceExpr) -> Result<Arg, NoMemory>
     ensures { IfOk result (λ part. part ≡ Arg.Ref ampersand place) }
 {
     Ok(Arg::Ref(ampersand, place))
 }
 
+/// `place` is that of the first token, brackets that only group aside.
 pub fn expr(_alloc: Global, place: Place, kind: ExprKind) -> Result<Expr, NoMemory>
     ensures { IfOk result (λ part. part ≡ roll-Expr (record { place = place; kind = kind })) }
 {
     Ok(Expr { place, kind })
 }
 
+/// `value` in decimal; the source has none below 0.
 pub fn expr_kind_int(_alloc: Global, value: i64) -> Result<ExprKind, NoMemory>
     ensures { IfOk result (λ part. part ≡ ExprKind.Int value) }
 {
     Ok(ExprKind::Int(value))
 }
 
+/// `true` or `false`.
 pub fn expr_kind_bool(_alloc: Global, value: bool) -> Result<ExprKind, NoMemory>
     ensures { IfOk result (λ part. part ≡ ExprKind.Bool value) }
 {
     Ok(ExprKind::Bool(value))
 }
 
+/// `x`, `x.f`, `x[i]` in value position.
 pub fn expr_kind_path(_alloc: Global, place: PlaceExpr) -> Result<ExprKind, NoMemory>
     ensures { IfOk result (λ part. part ≡ ExprKind.Path place) }
 {
     Ok(ExprKind::Path(place))
 }
 
+/// `f(x)` for its result.
 pub fn expr_kind_call(_alloc: Global, call: Call) -> Result<ExprKind, NoMemory>
     ensures { IfOk result (λ part. part ≡ ExprKind.Call call) }
 {
     Ok(ExprKind::Call(call))
 }
 
+/// `await handle` for the result of the task.
 pub fn expr_kind_await(_alloc: Global, handle: Name) -> Result<ExprKind, NoMemory>
     ensures { IfOk result (λ part. part ≡ ExprKind.Await handle) }
 {
     Ok(ExprKind::Await(handle))
 }
 
+/// `[a, b]`; the source has at least one element.
 pub fn expr_kind_array_lit(_alloc: Global, elements: Vec<Expr>) -> Result<ExprKind, NoMemory>
     ensures { IfOk result (λ part. part ≡ ExprKind.ArrayLit elements.items) }
 {
     Ok(ExprKind::ArrayLit(Items::from_vec(elements)))
 }
 
+/// `filled(len, value)`. Takes memory for both.
 pub fn expr_kind_filled(alloc: Global, len: Expr, value: Expr) -> Result<ExprKind, NoMemory>
     ensures { IfOk result (λ part. part ≡ ExprKind.Filled len value) }
 {
@@ -335,12 +377,14 @@ pub fn expr_kind_filled(alloc: Global, len: Expr, value: Expr) -> Result<ExprKin
     Ok(ExprKind::Filled(len, value))
 }
 
+/// `count(place)`.
 pub fn expr_kind_count(_alloc: Global, place: PlaceExpr) -> Result<ExprKind, NoMemory>
     ensures { IfOk result (λ part. part ≡ ExprKind.Count place) }
 {
     Ok(ExprKind::Count(place))
 }
 
+/// `fun [captures] (params) -> returned body`.
 pub fn expr_kind_lambda(
     _alloc: Global,
     captures: Vec<Name>,
@@ -358,6 +402,7 @@ pub fn expr_kind_lambda(
     ))
 }
 
+/// `-operand` or `!operand`. Takes memory for the operand.
 pub fn expr_kind_prefix(
     alloc: Global,
     operator: Operator,
@@ -369,6 +414,7 @@ pub fn expr_kind_prefix(
     Ok(ExprKind::Prefix(operator, operand))
 }
 
+/// `first`, then each operator with its place and its right operand. Takes memory for `first`.
 pub fn expr_kind_chain(
     alloc: Global,
     first: Expr,

@@ -21,6 +21,7 @@ impl Model for TaskId {
 }
 
 impl TaskId {
+    /// The task that runs `main`.
     pub fn root(alloc: Global) -> Result<TaskId, NoMemory>
         ensures { IfOk result (λ id. id ≡ 0 ∷ []) }
     {
@@ -38,6 +39,7 @@ impl TaskId {
         Ok(TaskId { path })
     }
 
+    /// The same path in memory of its own.
     pub fn copy(&self, alloc: Global) -> Result<TaskId, NoMemory>
         ensures { IfOk result (λ id. id ≡ self.now) }
     {
@@ -45,6 +47,7 @@ impl TaskId {
         Ok(TaskId { path })
     }
 
+    /// Whether both name one task of a run.
     pub fn same(&self, other: &TaskId) -> bool
         ensures { IsTrue result ↔ (self.now ≡ other.now) }
     {

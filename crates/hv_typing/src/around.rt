@@ -22,6 +22,7 @@ pub struct Around<'a, 't> {
     pub returned: &'t Option<Ty>,
 }
 
+/// The newest visible local with the name.
 pub fn local_named<'t>(around: &Around<'_, 't>, name: &Name) -> Option<Known<'t>>
     ensures { option_local result ≡ here.local_named around.now name.now }
 {
@@ -51,6 +52,7 @@ fn is_handle_kind(kind: Kind) -> bool
     }
 }
 
+/// Whether the name is that of a handle; that of no local isn't.
 pub fn is_handle(local: Option<Known<'_>>) -> bool
     ensures { result ≡ tests.is_handle (option_local local.entry) }
 {
@@ -81,6 +83,7 @@ fn is_read_only_kind(kind: Kind) -> bool
     }
 }
 
+/// Whether it may only be read: a capture, a `let` parameter or a `let` binding.
 pub fn is_read_only(local: Option<Known<'_>>) -> bool
     ensures { result ≡ tests.is_read_only (option_local local.entry) }
 {
@@ -90,6 +93,7 @@ pub fn is_read_only(local: Option<Known<'_>>) -> bool
     }
 }
 
+/// Whether the program has a struct with the name; locals aren't looked at.
 pub fn is_struct_name(around: &Around<'_, '_>, name: &Name) -> bool
     ensures { result ≡ tests.is_struct_name (here.tree_in around.now) name.now }
 {
@@ -128,6 +132,7 @@ fn is_index(step: &Step) -> bool
     }
 }
 
+/// Whether one of them is an index, so that the place lies in an array.
 pub fn has_index(steps: &[Step]) -> bool
     ensures { result ≡ tests.has_index (here.steps_of steps.now) }
 {

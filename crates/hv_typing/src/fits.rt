@@ -13,6 +13,7 @@ use hv_scope::{element_at, field_at};
 use hv_texts::Texts;
 use hv_tree::{Name, Operator, Ty};
 
+/// No array more around it.
 pub fn held<'t>(base: Base<'t>) -> HeldType<'t>
     ensures { type_by result ≡ base_by base.entry }
 {
@@ -65,6 +66,7 @@ pub fn signature_differs(given: Typed<'_>, signature: Signature<'_>) -> bool
     }
 }
 
+/// `==` and `!=`, which compare values of any type without functions.
 pub fn is_equality(operator: Operator) -> bool
     ensures { result ≡ tests.is_equality operator }
 {

@@ -13,12 +13,14 @@ pub struct HeldType<'t> {
     pub base: Base<'t>,
 }
 
+/// A type without the arrays that are counted. One that is written may itself be an array.
 #[derive(Clone, Copy)]
 pub enum Base<'t> {
     Int,
     Bool,
     /// By its name.
     Struct(&'t Name),
+    /// As it stands in the source.
     Written(&'t Ty),
     /// Of a function or a lambda.
     Function(&'t [Param], &'t Option<Ty>),

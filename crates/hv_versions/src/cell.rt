@@ -7,17 +7,21 @@ ghost use Rattle.hv_versions.specs.Cells as spec;
 pub struct Cell {
     /// It may be as it was there.
     pub kept: bool,
+    /// It may have got a no since.
     pub no: bool,
+    /// It may have got a yes since.
     pub yes: bool,
 }
 
 impl Cell {
+    /// Whether it may be anything at all.
     pub fn is_reached(self) -> bool
         ensures { result ≡ spec.is_reached self }
     {
         self.kept || self.no || self.yes
     }
 
+    /// It gets a value, if it is reached.
     pub fn set(self, value: bool) -> Cell
         ensures { result ≡ spec.set_cell value self }
     {
@@ -28,6 +32,7 @@ impl Cell {
         }
     }
 
+    /// Where two ways meet: what it may be on one of them.
     pub fn either(self, other: Cell) -> Cell
         ensures { result ≡ spec.either_cell self other }
     {
@@ -50,6 +55,7 @@ impl Cell {
         }
     }
 
+    /// Whether it may have this value, seen from the turn; what it was before isn't counted.
     pub fn may(self, value: bool) -> bool
         ensures { result ≡ spec.cell_may self value }
     {

@@ -113,6 +113,7 @@ fn set_one(list: &mut Vec<History>, at: usize, site: Site, value: bool) -> Resul
 }
 
 impl Histories {
+    /// So many cells, none of which was changed: each is a no.
     pub fn new(alloc: Global, count: usize) -> Result<Histories, NoMemory>
         ensures { IfOk result (λ all. all ≡ replicate count spec.first_history) }
     {
@@ -120,6 +121,7 @@ impl Histories {
         Ok(Histories { list })
     }
 
+    /// How many cells there are, whether reached or not.
     pub fn len(&self) -> usize
         ensures { result ≡ length self.now }
     {

@@ -29,6 +29,7 @@ fn joined_value(version: Version, sides: usize, reached: bool) -> Cell
 }
 
 impl History {
+    /// A cell that was never changed is a no, which takes no memory.
     pub fn new(alloc: Global) -> History
         ensures { result ≡ spec.first_history }
     {

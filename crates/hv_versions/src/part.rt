@@ -5,11 +5,15 @@ ghost use Rattle.hv_versions.specs.States as spec;
 /// many sides are passed that were reached to their end.
 #[derive(Clone, Copy)]
 pub enum Kind {
+    /// In the first of two sides: whether what was before it was reached.
     OneSide(bool),
+    /// In another side: how many are passed that were reached to their end.
     OtherSide(usize),
+    /// In a turn of a loop: whether what was before it was reached.
     Turn(bool),
 }
 
+/// A part that is open, with what was so as it began.
 #[derive(Clone, Copy)]
 pub struct Part {
     pub kind: Kind,
@@ -20,6 +24,7 @@ pub struct Part {
 }
 
 impl Kind {
+    /// How many sides are passed that were reached to their end; a turn and the one side have none.
     pub fn sides(self) -> usize
         ensures { result ≡ spec.number self }
     {

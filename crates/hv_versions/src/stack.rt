@@ -22,6 +22,7 @@ impl<T> Model for Stack<T> {
 }
 
 impl<T> Stack<T> {
+    /// An empty one, which takes no memory.
     pub fn new(alloc: Global) -> Stack<T>
         ensures { result ≡ [] }
     {
@@ -30,6 +31,7 @@ impl<T> Stack<T> {
         }
     }
 
+    /// How many items were added and not taken.
     #[tactic(auto, using(crate::proofs::Stacks::length_reversed))]
     pub fn len(&self) -> usize
         ensures { result ≡ length self.now }
@@ -37,6 +39,7 @@ impl<T> Stack<T> {
         self.list.len()
     }
 
+    /// Takes the item that was added last.
     #[tactic(auto, using(hv_lemmas::proofs::Reversed::stacked))]
     pub fn pop(&mut self) -> Option<T>
         ensures first { result ≡ first_of self.old }
@@ -47,6 +50,7 @@ impl<T> Stack<T> {
 }
 
 impl<T: Copy> Stack<T> {
+    /// The item that was added last; it stays.
     #[tactic(auto, using(crate::proofs::Stacks::first_reversed, crate::proofs::Stacks::none_reversed))]
     pub fn top(&self) -> Option<T>
         ensures { result ≡ first_of self.now }
@@ -74,6 +78,7 @@ impl<T: Copy> Stack<T> {
 }
 
 impl<T: Drop> Stack<T> {
+    /// Adds an item. Without memory for it the item is dropped.
     #[tactic(auto, using(hv_lemmas::proofs::Reversed::stacked))]
     pub fn push(&mut self, item: T) -> Result<(), NoMemory>
         ensures ok { OnOk result (self.new ≡ item ∷ self.old) }

@@ -25,6 +25,7 @@ pub struct State {
 }
 
 impl State {
+    /// The begin of a body: it is reached, no part is open, and so many cells are a no.
     pub fn new(alloc: Global, count: usize) -> Result<State, NoMemory>
         ensures { IfOk result (λ s. s ≡ spec.starting_state count) }
     {
@@ -38,6 +39,7 @@ impl State {
         })
     }
 
+    /// How many cells are seen: all, or none where the walk isn't reached.
     pub fn len(&self) -> usize
         ensures { result ≡ length (spec.now_seen self.now.reached self.now.turn self.now.histories) }
     {
@@ -48,6 +50,7 @@ impl State {
         }
     }
 
+    /// What a cell may be, seen from the innermost turn; none is seen where the walk isn't reached.
     pub fn at(&self, index: usize) -> Option<Cell>
         ensures { result ≡ slice_get (spec.now_seen self.now.reached self.now.turn self.now.histories) index }
     {
@@ -95,6 +98,7 @@ impl State {
         Ok(())
     }
 
+    /// What comes next isn't reached, as behind a `return`.
     pub fn stop(&mut self)
         ensures { self.new ≡ spec.stopped_state self.old }
     {
@@ -112,6 +116,7 @@ impl State {
         })
     }
 
+    /// A part with two sides begins, in its one side.
     pub fn split(&mut self) -> Result<(), NoMemory>
         ensures ok { OnOk result (self.new ≡ spec.split_state self.old) }
         ensures err { OnErr result (self.new ≡ self.old) }
@@ -119,6 +124,7 @@ impl State {
         self.open(Kind::OneSide(self.reached))
     }
 
+    /// A turn of a loop begins; it is the innermost.
     pub fn enter(&mut self) -> Result<(), NoMemory>
         ensures ok { OnOk result (self.new ≡ spec.entered_state self.old) }
         ensures err { OnErr result (self.new ≡ self.old) }
@@ -134,6 +140,7 @@ impl State {
         self.trail.end(&mut self.histories, from, depth, closing);
     }
 
+    /// The one side ends and the other begins, reached if what was before both was. Elsewhere nothing changes.
     pub fn change_sides(&mut self)
         ensures { self.new ≡ spec.sides_changed_state self.old }
     {
@@ -225,6 +232,7 @@ impl State {
         }
     }
 
+    /// The part ends with its other side: a cell may be what it may be behind each side that was reached to its end.
     pub fn join(&mut self)
         ensures { self.new ≡ spec.joined_state self.old }
     {
@@ -244,6 +252,7 @@ impl State {
         }
     }
 
+    /// The turn ends: behind the loop there may have been any number of turns like it, and also none.
     pub fn leave(&mut self)
         ensures { self.new ≡ spec.left_state self.old }
     {

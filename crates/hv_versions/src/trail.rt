@@ -21,6 +21,7 @@ impl Model for Trail {
 }
 
 impl Trail {
+    /// No cell was changed, which takes no memory.
     pub fn new(alloc: Global) -> Trail
         ensures { result ≡ [] }
     {
@@ -29,18 +30,21 @@ impl Trail {
         }
     }
 
+    /// How many changes are noted; a part remembers it from its begin.
     pub fn len(&self) -> usize
         ensures { result ≡ length self.now }
     {
         self.list.len()
     }
 
+    /// Lends the numbers, the earliest change first.
     pub fn as_slice(&self) -> &[usize]
         ensures { result.now ≡ self.now }
     {
         self.list.as_slice()
     }
 
+    /// Notes a change of the cell with this number.
     pub fn push(&mut self, at: usize) -> Result<(), NoMemory>
         ensures ok { OnOk result (self.new ≡ self.old ++ at ∷ []) }
         ensures err { OnErr result (self.new ≡ self.old) }

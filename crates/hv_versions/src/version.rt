@@ -28,6 +28,7 @@ pub struct Site {
 }
 
 impl Version {
+    /// That of the body itself, for a cell that was never changed: a no.
     pub fn first() -> Version
         ensures { result ≡ spec.first_version }
     {
