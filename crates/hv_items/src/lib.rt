@@ -3,8 +3,10 @@
 
 mod boxed;
 mod items;
+mod kept;
 #[cfg(test)]
 mod tests;
 
 pub use boxed::Boxed;
 pub use items::{Items, at};
+pub use kept::beside;
