@@ -15,8 +15,6 @@ mod make;
 mod stop_plays;
 mod stop_view;
 mod stop_word;
-#[cfg(test)]
-mod tests;
 mod tokens;
 mod watches;
 mod why;

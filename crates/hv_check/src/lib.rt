@@ -2,7 +2,5 @@
 #![tactic(auto)]
 
 mod phases;
-#[cfg(test)]
-mod tests;
 
 pub use phases::{CheckEnd, check};

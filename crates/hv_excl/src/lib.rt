@@ -6,8 +6,6 @@ mod clash;
 mod excl;
 mod judge;
 mod open;
-#[cfg(test)]
-mod tests;
 mod told;
 
 pub use access::{AccessMode, OpenAccess, Opened};

@@ -4,8 +4,6 @@
 mod body;
 mod build;
 mod nodes;
-#[cfg(test)]
-mod tests;
 mod waiting;
 
 pub use body::graph;

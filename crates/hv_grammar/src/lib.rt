@@ -5,8 +5,6 @@ mod cursor;
 mod parts;
 mod stop;
 mod strength;
-#[cfg(test)]
-mod tests;
 
 pub use cursor::Cursor;
 pub use parts::ElsePart;

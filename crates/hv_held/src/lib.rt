@@ -10,8 +10,6 @@ mod measure;
 mod operate;
 mod place;
 mod show;
-#[cfg(test)]
-mod tests;
 mod tree;
 mod way;
 

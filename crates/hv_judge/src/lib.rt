@@ -7,8 +7,6 @@ mod names;
 mod parts;
 mod positions;
 mod refuse;
-#[cfg(test)]
-mod tests;
 mod wants;
 
 pub use calls::judge_call;

@@ -4,8 +4,6 @@
 mod cuts;
 mod ends;
 mod layout;
-#[cfg(test)]
-mod tests;
 mod tracked;
 
 pub use layout::Layout;

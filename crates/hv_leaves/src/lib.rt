@@ -7,8 +7,6 @@ mod rounds;
 mod row;
 mod sizes;
 mod table;
-#[cfg(test)]
-mod tests;
 
 pub use leaves::Leaves;
 pub use sizes::Sizes;

@@ -6,8 +6,6 @@ mod decls;
 mod entry;
 mod phases;
 mod program;
-#[cfg(test)]
-mod tests;
 mod types;
 mod walk;
 

@@ -3,8 +3,7 @@ ghost use Rattle.hv_tree.specs.Core.{core_tree};
 ghost use Rattle.hv_rules.specs.Accepted.{NamePhase, IsFirstOf};
 
 use crate::decls::all_found;
-use crate::least::first;
-use hv_tree::{Refusal, Tree};
+use hv_tree::{Refusal, Tree, first};
 use std::alloc::{AllocError as NoMemory, Global};
 
 /// The first violation of the rules of names.

@@ -10,7 +10,5 @@ mod marks;
 mod parsed;
 mod statements;
 mod tasks;
-#[cfg(test)]
-mod tests;
 
 pub use parsed::{ParseEnd, parse};

@@ -10,8 +10,6 @@ mod hints;
 mod known;
 mod pass;
 mod plan;
-#[cfg(test)]
-mod tests;
 mod waiting;
 
 pub use act::{Act, Range};

@@ -8,8 +8,6 @@ mod paths;
 mod plan;
 mod scope;
 mod stmts;
-#[cfg(test)]
-mod tests;
 
 pub use body::{Planned, plan_of_body, plans};
 pub use plan::FlowOp;

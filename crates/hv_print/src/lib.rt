@@ -5,8 +5,6 @@ mod law;
 mod operators;
 mod program;
 mod statements;
-#[cfg(test)]
-mod tests;
 mod types;
 
 pub use law::{

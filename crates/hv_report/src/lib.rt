@@ -3,8 +3,6 @@
 
 mod refusal;
 mod run;
-#[cfg(test)]
-mod tests;
 
 pub use refusal::refusal_line;
 pub use run::report;

@@ -2,8 +2,6 @@
 #![tactic(auto)]
 
 mod event;
-#[cfg(test)]
-mod tests;
 
 pub use event::FlowEvent;
 pub use hv_decls::{StaticPath, StaticStep, overlap};

@@ -9,8 +9,6 @@ mod known;
 mod listed;
 mod locals;
 mod structs;
-#[cfg(test)]
-mod tests;
 mod types;
 mod visible;
 

@@ -7,8 +7,6 @@ mod local;
 mod paid;
 mod spot;
 mod task;
-#[cfg(test)]
-mod tests;
 
 pub use access::{Access, Mode, close, close_all, open};
 pub use compute::{binary, decides, number, print, truth, unary};

@@ -6,8 +6,6 @@ mod law;
 mod needs;
 mod sight;
 mod standing;
-#[cfg(test)]
-mod tests;
 
 pub use event::has_index;
 pub use law::locals_without_state_are_filled;

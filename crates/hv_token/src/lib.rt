@@ -5,8 +5,6 @@ mod class;
 mod kind;
 mod lexed;
 mod piece;
-#[cfg(test)]
-mod tests;
 
 pub use hv_tree::{Token, TokenKind};
 pub use lexed::{Lexed, lex};

@@ -8,8 +8,6 @@ mod order;
 mod place;
 mod refusal;
 mod task;
-#[cfg(test)]
-mod tests;
 mod text;
 mod token;
 mod types;

@@ -6,8 +6,6 @@ mod copying;
 mod measure;
 mod place;
 mod show;
-#[cfg(test)]
-mod tests;
 mod value;
 
 pub use compare::{equal, has_function};

@@ -8,8 +8,6 @@ mod history;
 mod part;
 mod stack;
 mod state;
-#[cfg(test)]
-mod tests;
 mod trail;
 mod version;
 mod versions;

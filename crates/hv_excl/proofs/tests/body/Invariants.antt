@@ -1,5 +1,0 @@
-use Rattle.std.proofs.Common.{length}
-use Rattle.hv_excl.proofs.tests.body.Given as goal
-
-abbrev pub decreases-loop-letters : goal.decreases-loop-letters
-decreases-loop-letters l = length l.letters
