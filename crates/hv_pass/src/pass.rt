@@ -54,9 +54,9 @@ fn change_sides(known: &mut Known, waiting: &mut Waiting) -> Result<(), NoMemory
         Some(Frame::OtherSide) => known.versions.change_sides_within()?,
         Some(frame) => {
             waiting.push(frame)?;
-            known.versions.change_sides()?;
+            known.versions.change_sides();
         }
-        None => known.versions.change_sides()?,
+        None => known.versions.change_sides(),
     }
     waiting.push(Frame::OtherSide)
 }
@@ -64,7 +64,7 @@ fn change_sides(known: &mut Known, waiting: &mut Waiting) -> Result<(), NoMemory
 fn leave(known: &mut Known, outer: Items<Entry>) -> Result<(), NoMemory>
     ensures { OnOk result (known.new ≡ spec.left_known outer known.old) }
 {
-    known.versions.leave()?;
+    known.versions.leave();
     let turn = mem::replace(&mut known.asked.list, outer);
     known.found = asked::find(&known.versions, turn.as_slice(), known.found);
     asked::pass_on(&mut known.asked, &known.versions, turn.as_slice())
@@ -79,7 +79,7 @@ fn give(known: &mut Known, waiting: &mut Waiting) -> Result<(), NoMemory>
         match frame {
             Frame::Before => return Ok(()),
             Frame::OneSide => return change_sides(known, waiting),
-            Frame::OtherSide => known.versions.join()?,
+            Frame::OtherSide => known.versions.join(),
             Frame::Turn(outer) => leave(known, outer)?,
         }
     }

@@ -1,5 +1,5 @@
 // The cells of a walk, and the lists of them that wait for the end of a part.
-ghost use Rattle.std.specs.Prelude.{◌≡◌, length, slice_get, IfOk, OnOk};
+ghost use Rattle.std.specs.Prelude.{◌≡◌, slice_get, IfOk, OnOk};
 ghost use Rattle.hv_versions.specs.Levels as spec;
 
 use crate::cell::Cell;
@@ -35,13 +35,6 @@ impl Versions {
         Ok(Versions { state })
     }
 
-    /// How many cells there are; none where nothing reaches.
-    pub fn len(&self) -> usize
-        ensures { result ≡ length self.now.now }
-    {
-        self.state.len()
-    }
-
     /// What a cell may be here.
     pub fn at(&self, index: usize) -> Option<Cell>
         ensures { result ≡ slice_get self.now.now index }
@@ -61,7 +54,7 @@ impl Versions {
     pub fn set(&mut self, from: u32, count: u32, value: bool) -> Result<(), NoMemory>
         ensures { OnOk result (self.new ≡ spec.set_level value from count self.old) }
     {
-        if self.len() == 0 {
+        if self.state.len() == 0 {
             return Ok(());
         }
         let from = from as usize;
@@ -93,11 +86,10 @@ impl Versions {
     }
 
     /// The one side ends, and the other begins.
-    pub fn change_sides(&mut self) -> Result<(), NoMemory>
-        ensures { OnOk result (self.new ≡ spec.sides_changed self.old) }
+    pub fn change_sides(&mut self)
+        ensures { self.new ≡ spec.sides_changed self.old }
     {
         self.state.change_sides();
-        Ok(())
     }
 
     /// The same, where the one side may have begun in the other side of two that end together: it
@@ -109,18 +101,16 @@ impl Versions {
     }
 
     /// The other side ends, and the walk goes on behind either.
-    pub fn join(&mut self) -> Result<(), NoMemory>
-        ensures { OnOk result (self.new ≡ spec.joined_level self.old) }
+    pub fn join(&mut self)
+        ensures { self.new ≡ spec.joined_level self.old }
     {
         self.state.join();
-        Ok(())
     }
 
     /// The turn ends, and the walk goes on behind the loop.
-    pub fn leave(&mut self) -> Result<(), NoMemory>
-        ensures { OnOk result (self.new ≡ spec.turned_level self.old) }
+    pub fn leave(&mut self)
+        ensures { self.new ≡ spec.turned_level self.old }
     {
         self.state.leave();
-        Ok(())
     }
 }
