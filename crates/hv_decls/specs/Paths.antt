@@ -54,3 +54,10 @@ abbrev pub steps_meet : List StaticStep → List StaticStep → Bool
 steps_meet [] ys = true
 steps_meet (x ∷ xs) [] = true
 steps_meet (x ∷ xs) (y ∷ ys) = compatible x y && steps_meet xs ys
+
+-- whether a step is an index
+abbrev pub has_index : List StaticStep → Bool
+has_index [] = false
+has_index (step.Field f ∷ steps) = has_index steps
+has_index (step.Literal n ∷ steps) = true
+has_index (step.Any ∷ steps) = true

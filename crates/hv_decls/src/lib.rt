@@ -3,4 +3,4 @@
 
 mod path;
 
-pub use path::{StaticPath, StaticStep, overlap};
+pub use path::{StaticPath, StaticStep, has_index, overlap};

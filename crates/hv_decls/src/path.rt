@@ -1,5 +1,5 @@
 ghost use Rattle.std.specs.Prelude.{◌≡◌, ◌↔◌, IsTrue};
-ghost use Rattle.hv_decls.specs.Paths.{compatible, steps_meet, Overlap};
+ghost use Rattle.hv_decls.specs.Paths.{compatible, has_index, steps_meet, Overlap};
 
 use hv_items::Items;
 
@@ -20,6 +20,19 @@ pub enum StaticStep {
     Literal(i64),
     /// Any other index.
     Any,
+}
+
+/// Whether one of the steps is an index.
+pub fn has_index(steps: &[StaticStep]) -> bool
+    ensures { result ≡ has_index steps.now }
+{
+    for step in steps {
+        match step {
+            StaticStep::Field(_) => {}
+            StaticStep::Literal(_) | StaticStep::Any => return true,
+        }
+    }
+    false
 }
 
 fn compatible(a: StaticStep, b: StaticStep) -> bool

@@ -1,7 +1,7 @@
 // What an event asks of the cells.
 ghost use Rattle.std.specs.Prelude.{◌≡◌, ◌++◌, ◌∷◌, [], false, if◌then◌else◌, Some, None, map, OnOk};
 ghost use Rattle.hv_rules.specs.Rules as rules;
-ghost use Rattle.hv_rules.specs.States as states;
+ghost use Rattle.hv_decls.specs.Paths as paths;
 ghost use Rattle.hv_layout.specs.Laid.{laid};
 ghost use Rattle.hv_pass.specs.declared.act.Act.TheVariants as act;
 ghost use Rattle.hv_init_law.specs.Acts as spec;
@@ -11,9 +11,8 @@ use hv_ends::{End, Span, is_end};
 use hv_items::Items;
 use hv_layout::Layout;
 use hv_pass::{Act, Range};
-use hv_decls::StaticPath;
+use hv_decls::{StaticPath, has_index};
 use hv_rules::FlowEvent;
-use hv_steady::has_index;
 use hv_tree::{Place, Refusal, Rule};
 use std::alloc::AllocError as NoMemory;
 
@@ -42,7 +41,7 @@ fn ask_index(
     path: &StaticPath,
     place: Place,
 ) -> Result<(), NoMemory>
-    ensures { OnOk result (acts.new ≡ acts.old ++ spec.whole_asked (laid layout.now) place (if states.has_index path.now.steps then Some path.now else None)) }
+    ensures { OnOk result (acts.new ≡ acts.old ++ spec.whole_asked (laid layout.now) place (if paths.has_index path.now.steps then Some path.now else None)) }
 {
     if has_index(path.steps.as_slice()) {
         ask_path(layout, acts, path, place)

@@ -10,9 +10,8 @@ use hv_excl::{AccessMode, OpenAccess, Opened};
 use hv_items::Items;
 use hv_layout::Layout;
 use hv_pass::Act;
-use hv_decls::StaticPath;
+use hv_decls::{StaticPath, has_index};
 use hv_rules::FlowEvent;
-use hv_steady::has_index;
 use std::alloc::AllocError as NoMemory;
 
 fn set_path(

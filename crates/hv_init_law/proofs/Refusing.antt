@@ -11,7 +11,8 @@ use Rattle.hv_rules.specs.declared.event.FlowEvent.TheVariants as event
 use Rattle.hv_tree.specs.Earlier.{IsFirst}
 use Rattle.hv_decls.specs.Locals.{CoreBody}
 use Rattle.hv_rules.specs.Events.{Mark}
-use Rattle.hv_rules.specs.States.{fields_of, has_index, Mode, Reading, Writing, Setting, Access, last_called, Filled, Open, state_after}
+use Rattle.hv_rules.specs.States.{fields_of, Mode, Reading, Writing, Setting, Access, last_called, Filled, Open, state_after}
+use Rattle.hv_decls.specs.Paths.{has_index}
 use Rattle.hv_rules.specs.Rules.{Trace, asks_whole, back_at, missing_at, HasHole, Violates}
 use Rattle.hv_rules.specs.Accepted.{InitPhase, phase_of}
 use Rattle.hv_lemmas.proofs.Members.{Among, listed, contained}

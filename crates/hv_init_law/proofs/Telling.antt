@@ -10,7 +10,8 @@ use Rattle.hv_rules.specs.declared.event.FlowEvent.TheVariants as event
 use Rattle.hv_rules.specs.Flow.{Flow, IsWhole, IsTrace}
 use Rattle.hv_decls.specs.Locals.{CoreBody}
 use Rattle.hv_rules.specs.Events.{Belongs, Mark, body_events}
-use Rattle.hv_rules.specs.States.{Leaf, fields_of, has_index, is_front, changed, emptied, Mode, Reading, Writing, Setting, Access, opened, unless_bound, last_called, dropped_or_kept, closed, filled_by, filled_at_close, stays, without_bindings, State, start, after_event, after, after_all, Filled}
+use Rattle.hv_rules.specs.States.{Leaf, fields_of, is_front, changed, emptied, Mode, Reading, Writing, Setting, Access, opened, unless_bound, last_called, dropped_or_kept, closed, filled_by, filled_at_close, stays, without_bindings, State, start, after_event, after, after_all, Filled}
+use Rattle.hv_decls.specs.Paths.{has_index}
 use Rattle.hv_rules.specs.States as states
 use Rattle.hv_rules.specs.Rules.{Trace, asks_whole, back_at, missing_at}
 use Rattle.hv_pass.specs.declared.act.Act.TheVariants as act

@@ -11,7 +11,8 @@ use Rattle.hv_rules.specs.declared.event.FlowEvent.TheVariants as event
 use Rattle.hv_rules.specs.Flow.{Flow}
 use Rattle.hv_decls.specs.Locals.{CoreBody}
 use Rattle.hv_rules.specs.Events.{Mark}
-use Rattle.hv_rules.specs.States.{Mode, Reading, Writing, Setting, Access, fields_of, has_index, last_called}
+use Rattle.hv_rules.specs.States.{Mode, Reading, Writing, Setting, Access, fields_of, last_called}
+use Rattle.hv_decls.specs.Paths.{has_index}
 use Rattle.hv_rules.specs.Rules.{asks_whole, back_at, missing_at}
 use Rattle.hv_pass.specs.declared.act.Range.{Range}
 use Rattle.hv_pass.specs.declared.act.Act.{Act}

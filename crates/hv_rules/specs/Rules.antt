@@ -9,13 +9,13 @@ use Rattle.hv_tree.specs.Core.{Core, CoreStmt, Task, CoreCall, CallOf}
 use Rattle.hv_decls.specs.declared.path.StaticPath.{StaticPath}
 use Rattle.hv_rules.specs.declared.event.FlowEvent.{FlowEvent}
 use Rattle.hv_rules.specs.declared.event.FlowEvent.TheVariants as event
-use Rattle.hv_decls.specs.Paths.{Overlap}
+use Rattle.hv_decls.specs.Paths.{Overlap, has_index}
 use Rattle.hv_decls.specs.Types.{ValueType, leaves_of}
 use Rattle.hv_decls.specs.Locals.{Local, CoreBody, locals_of, local_in}
 use Rattle.hv_decls.specs.Sites.{Part, ExprPart, CallPart, PlacePart, StmtPart, TestPart, Scope, Site, sites_of, bodies_of}
 use Rattle.hv_rules.specs.Flow.{IsTrace}
 use Rattle.hv_rules.specs.Events.{Belongs, ToNothing, ToDeclaration, ToEnd, Mark, Callee, Constructs, Takes, callee_by, body_events}
-use Rattle.hv_rules.specs.States.{fields_of, has_index, is_front, Access, Reading, Spawned, Awaited, State, state_after}
+use Rattle.hv_rules.specs.States.{fields_of, is_front, Access, Reading, Spawned, Awaited, State, state_after}
 
 -- ---- the leaves of a local
 

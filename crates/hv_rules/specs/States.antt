@@ -3,6 +3,7 @@ use Rattle.std.specs.Prelude.{ℕ, nat_lt, ◌==◌, Bool, true, false, not, ◌
 use Rattle.hv_decls.specs.declared.path.StaticStep.{StaticStep}
 use Rattle.hv_decls.specs.declared.path.StaticStep.TheVariants as step
 use Rattle.hv_decls.specs.declared.path.StaticPath.{StaticPath}
+use Rattle.hv_decls.specs.Paths.{has_index}
 use Rattle.hv_rules.specs.declared.event.FlowEvent.{FlowEvent}
 use Rattle.hv_rules.specs.declared.event.FlowEvent.TheVariants as event
 use Rattle.hv_rules.specs.Events.{Belongs, ToNothing, ToDeclaration, ToEnd, Mark}
@@ -20,13 +21,6 @@ fields_of [] = []
 fields_of (step.Field f ∷ steps) = f ∷ fields_of steps
 fields_of (step.Literal n ∷ steps) = []
 fields_of (step.Any ∷ steps) = []
-
--- whether a step is an index
-abbrev pub has_index : List StaticStep → Bool
-has_index [] = false
-has_index (step.Field f ∷ steps) = has_index steps
-has_index (step.Literal n ∷ steps) = true
-has_index (step.Any ∷ steps) = true
 
 -- whether the first list is a front of the second
 abbrev pub is_front : List ℕ → List ℕ → Bool

@@ -4,5 +4,5 @@
 mod event;
 
 pub use event::FlowEvent;
-pub use hv_decls::{StaticPath, StaticStep, overlap};
+pub use hv_decls::{StaticPath, StaticStep, has_index, overlap};
 pub use hv_tree::earlier;

@@ -11,7 +11,8 @@ use Rattle.hv_rules.specs.declared.event.FlowEvent.TheVariants as event
 use Rattle.hv_rules.specs.Flow.{Flow, Skip, Do, Stop, Then, Either, Loop, Turns, none, more, Ends, Leaves, IsWhole, IsTrace}
 use Rattle.hv_decls.specs.Locals.{CoreBody}
 use Rattle.hv_rules.specs.Events.{Belongs, Mark, body_events}
-use Rattle.hv_rules.specs.States.{Leaf, has_index, fields_of, is_front, covers, changed, emptied, filled_by, filled_at_close, Mode, Reading, Writing, Setting, Access, last_called, binding_of, State, after_event, after, after_all, start, Filled}
+use Rattle.hv_rules.specs.States.{Leaf, fields_of, is_front, covers, changed, emptied, filled_by, filled_at_close, Mode, Reading, Writing, Setting, Access, last_called, binding_of, State, after_event, after, after_all, start, Filled}
+use Rattle.hv_decls.specs.Paths.{has_index}
 use Rattle.hv_rules.specs.Rules.{Trace}
 use Rattle.hv_traces.specs.Carried.{after_each}
 use Rattle.hv_traces.proofs.CarriedLemmas.{zipped, zipped-append, trace_zipped}

@@ -8,7 +8,7 @@ use Rattle.hv_decls.specs.declared.path.StaticStep.{StaticStep}
 use Rattle.hv_decls.specs.declared.path.StaticPath.{StaticPath}
 use Rattle.hv_rules.specs.declared.event.FlowEvent.{FlowEvent}
 use Rattle.hv_rules.specs.declared.event.FlowEvent.TheVariants as event
-use Rattle.hv_rules.specs.States.{has_index}
+use Rattle.hv_decls.specs.Paths.{has_index}
 use Rattle.hv_rules.specs.Rules.{asks_whole}
 use Rattle.hv_steady.specs.declared.standing.Standing.{Standing}
 use Rattle.hv_steady.specs.declared.standing.Standing.TheVariants.{Unfilled, Filled, Unsettled}

@@ -1,26 +1,12 @@
 // Which locals an event gives a value, empties, or asks for.
 ghost use Rattle.std.specs.Prelude.{◌≡◌, OnOk};
-ghost use Rattle.hv_rules.specs.States as states;
 ghost use Rattle.hv_steady.specs.Sight.{sight_behind};
 ghost use Rattle.hv_steady.specs.Standings as spec;
 
 use crate::sight::Sight;
-use hv_decls::{StaticPath, StaticStep};
+use hv_decls::{StaticPath, has_index};
 use hv_rules::FlowEvent;
 use std::alloc::AllocError as NoMemory;
-
-/// Whether one of the steps is an index.
-pub fn has_index(steps: &[StaticStep]) -> bool
-    ensures { result ≡ states.has_index steps.now }
-{
-    for step in steps {
-        match step {
-            StaticStep::Field(_) => {}
-            StaticStep::Literal(_) | StaticStep::Any => return true,
-        }
-    }
-    false
-}
 
 fn given_to(declaration: Option<u32>, path: &StaticPath) -> Option<u32>
     ensures { result ≡ spec.given_to declaration path.now }

@@ -7,6 +7,5 @@ mod needs;
 mod sight;
 mod standing;
 
-pub use event::has_index;
 pub use law::locals_without_state_are_filled;
 pub use needs::locals_with_state;
