@@ -3,8 +3,8 @@
 # 512 KiB and 1 MiB, and by how much the slowest of the three is above linear. It ends with 1 where one is above 1.3.
 set -eu
 cd "$(dirname "$0")/.."
-( cd crates/hv_lex_bench && rt run -- 1 < stdin > /dev/null )
-program=crates/hv_lex_bench/out/hv_lex_bench
+( cd crates/hv_bench && rt run -- lex 1 < stdin > /dev/null )
+program=crates/hv_bench/out/hv_bench
 total=$((32 * 1048576))
 folder=$(mktemp -d)
 trap 'rm -rf "$folder"' EXIT
@@ -23,7 +23,7 @@ text() {
 # the least processor time, in seconds, of seven runs that read the same total
 least() {
     for _ in 1 2 3 4 5 6 7; do
-        { time "$program" "$((total / $2))" < "$folder/$1.$2" > /dev/null; } 2>&1
+        { time "$program" lex "$((total / $2))" < "$folder/$1.$2" > /dev/null; } 2>&1
     done | awk '{ t = $1 + $2 } NR == 1 || t < best { best = t } END { print best }'
 }
 

@@ -1,10 +1,14 @@
 //! Does to a source at standard input what `hv` doesn't do yet, for the measurements of bench/ and for the examples: `init`,
 //! `excl` and `await` print the place of the first violation of the rules on initialisation, on accesses or on handles,
-//! `judge` the line that names the first violation of the three, and `run` runs a program that passes places on.
+//! `judge` the line that names the first violation of the three, `run` runs a program that passes places on, and `lex N`
+//! lexes N times and prints how many tokens there are.
 #![tactic(auto)]
+
+mod lexing;
 
 ghost use Rattle.std.specs.Prelude.{length, ◌<◌};
 
+use crate::lexing::count_tokens;
 use hv_await::await_refusal;
 use hv_excl::excl_refusal;
 use hv_init::init_refusal;
@@ -106,10 +110,15 @@ fn answer(rt: &(impl Env + AllocGlobal + Input)) -> io::Result<String> {
     let alloc = rt.alloc();
     let mut source = Vec::new(alloc);
     rt.reader().read_to_end(&mut source)?;
-    for word in env::args(rt)?.skip(1) {
-        return Ok(answer_of(alloc, word.as_str(), source.as_slice())?);
+    let mut words = env::args(rt)?.skip(1);
+    let Some(word) = words.next() else {
+        return Ok(String::from_str(alloc, "init, excl, await, judge, run or lex N\n")?);
+    };
+    if word.as_str() == "lex" {
+        let rounds = words.next().unwrap_or(String::new(alloc));
+        return Ok(count_tokens(alloc, rounds.as_str(), source.as_slice())?);
     }
-    Ok(String::from_str(alloc, "init, excl, await, judge or run\n")?)
+    Ok(answer_of(alloc, word.as_str(), source.as_slice())?)
 }
 
 fn main(rt: HostRuntime) -> io::Result<()> {
