@@ -3,7 +3,7 @@ ghost use Rattle.std.specs.Prelude.{◌≡◌, ◌≤◌, ◌<◌, ◌+◌, ◌-
 ghost use Rattle.std.specs.Option.{option_map};
 ghost use Rattle.std.specs.Io.{ReadsAtMost, WritesAtMost};
 ghost use Rattle.std.specs.Io.KnownBytes.{ReadConsumes, WriteAppends};
-ghost use Rattle.hv_ports.specs.Causes.{HasCause, TakesSome};
+ghost use Rattle.hv_ports.specs.Causes.{HasCause, TakesEmpty, TakesSome};
 ghost use Rattle.hv_ports.specs.Memory.{bytes_named, bytes_of, file_of, one_more, Counted, IsDue, IsFull};
 
 use crate::{Failed, Sink, Source};
@@ -210,6 +210,7 @@ impl Sink for MemSink {
     fn write(&mut self, from: &[u8]) -> Result<usize, Failed>
         ensures bound { WritesAtMost result from.now }
         ensures some { TakesSome result from.now }
+        ensures empty { TakesEmpty result from.now (Some self.old.written) (Some self.new.written) self.old.faults self.new.faults }
         ensures bytes { WriteAppends (Some self.old.written) (Some self.new.written) result from.now }
         ensures cause { HasCause self.old.faults self.new.faults result }
         ensures count { IfOk result (λ n. n ≡ min (length from.now) (self.old.limit - length self.old.written)) }

@@ -1,7 +1,7 @@
 ghost use Rattle.std.specs.Prelude.{◌≡◌, List, ℕ, Option, Some, None, string_bytes, OnOk};
 ghost use Rattle.std.specs.Io.{ReadsAtMost, WritesAtMost};
 ghost use Rattle.std.specs.Io.KnownBytes.{ReadConsumes, WriteAppends, Keeps};
-ghost use Rattle.hv_ports.specs.Causes.{HasCause, TakesSome};
+ghost use Rattle.hv_ports.specs.Causes.{HasCause, TakesEmpty, TakesSome};
 
 /// A call of a source or a sink that didn't succeed.
 #[derive(Clone, Copy, Debug, PartialEq, Eq)]
@@ -46,9 +46,11 @@ pub trait Sink {
     ghost faults: { Self → ℕ };
 
     /// Takes a front of a piece, at least one byte of one that isn't empty, and answers its length.
+    /// An empty piece changes nothing.
     fn write(&mut self, from: &[u8]) -> Result<usize, Failed>
         ensures bound { WritesAtMost result from.now }
         ensures some { TakesSome result from.now }
+        ensures empty { TakesEmpty result from.now (written self.old) (written self.new) (faults self.old) (faults self.new) }
         ensures bytes { WriteAppends (written self.old) (written self.new) result from.now }
         ensures cause { HasCause (faults self.old) (faults self.new) result };
 }

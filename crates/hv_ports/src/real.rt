@@ -109,8 +109,11 @@ impl<'r, R: Print> Sink for StdSink<'r, R> {
     ghost faults = { λ k. k.faults };
 
     fn write(&mut self, from: &[u8]) -> Result<usize, Failed> {
+        if from.is_empty() {
+            return Ok(0);
+        }
         match io::writer(self.rt).write(from) {
-            Ok(count) if count > 0 || from.is_empty() => Ok(count),
+            Ok(count) if count > 0 => Ok(count),
             _ => {
                 self.faults = self.faults.saturating_add(1);
                 Err(Failed)

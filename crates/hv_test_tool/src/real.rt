@@ -45,4 +45,5 @@ fn a_real_file_is_read_to_its_end(rt: HostRuntime) -> Result<(), Fail> {
 fn standard_output_takes_a_line(rt: HostRuntime) {
     let mut sink = StdSink::new(&rt);
     assert!(rt; sink.write(b"one line\n").is_ok());
+    assert_eq!(rt; sink.write(b""), Ok(0));
 }
