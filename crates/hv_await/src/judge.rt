@@ -17,11 +17,10 @@ ghost use Rattle.hv_await.specs.Ops as spec;
 use crate::changing::judge_changes;
 use crate::ops::{again_ops, left_ops};
 use hv_ends::{End, ends_of, without_entry};
-use hv_tree::first;
+use hv_tree::{Refusal, Tree, first};
 use hv_pass::first_refusal;
 use hv_plan::{FlowOp, plan_of_body};
 use hv_scope::{Body, Declared, bodies_of};
-use hv_tree::{Refusal, Tree};
 use std::alloc::{AllocError as NoMemory, Global};
 
 fn first_left(alloc: Global, ops: &[FlowOp], ends: &[End]) -> Result<Option<Refusal>, NoMemory>

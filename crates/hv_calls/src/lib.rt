@@ -9,8 +9,6 @@ mod children;
 mod entry;
 mod given;
 mod passed;
-#[cfg(test)]
-mod tests;
 
 pub use bodies::enter;
 pub use calls::{call, callee};

@@ -9,8 +9,7 @@ ghost use Rattle.hv_excl.specs.Violations as spec;
 use crate::judge::judge;
 use hv_pass::first_refusal;
 use hv_plan::{Planned, plans};
-use hv_tree::earlier;
-use hv_tree::{Refusal, Tree};
+use hv_tree::{Refusal, Tree, earlier};
 use std::alloc::{AllocError as NoMemory, Global};
 
 fn body_refusal(alloc: Global, planned: &Planned<'_>) -> Result<Option<Refusal>, NoMemory>

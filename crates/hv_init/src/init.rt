@@ -13,9 +13,8 @@ use hv_layout::Layout;
 use hv_leaves::Sizes;
 use hv_pass::first_refusal;
 use hv_plan::plan_of_body;
-use hv_tree::earlier;
+use hv_tree::{Refusal, Tree, earlier};
 use hv_scope::{Body, Declared, bodies_of};
-use hv_tree::{Refusal, Tree};
 use std::alloc::{AllocError as NoMemory, Global};
 
 fn body_refusal<'t>(

@@ -1,7 +1,7 @@
 ghost use Rattle.std.specs.Prelude.{◌≡◌, [], ◌∷◌, IfOk};
 
-use hv_value::{PathStep, Value, clone_value, equal, get, has_function, put, size, text};
 use hv_items::Items;
+use hv_value::{PathStep, Value, clone_value, equal, get, has_function, put, size, text};
 use std::alloc::{AllocError as NoMemory, Global};
 use std::test::Fail;
 

@@ -1,8 +1,8 @@
-use hv_report::{refusal_line, report};
 use hv_copying::TrapKind;
 use hv_held::Held;
 use hv_items::Items;
 use hv_node::{End, TaskNode};
+use hv_report::{refusal_line, report};
 use hv_tree::{Place, Refusal, Rule};
 use std::alloc::{AllocError as NoMemory, Global};
 use std::test::Fail;

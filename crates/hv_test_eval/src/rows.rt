@@ -66,7 +66,7 @@ struct Row {
     shorter: &'static str,
 }
 
-const ROWS: [Row; 35] = [
+const ROWS: [Row; 36] = [
     Row {
         source: "fun main() { print(7 / -2) print(-7 / 2) ^print(-7 % 2) }",
         output: "-3\n-3\n-1\n",
@@ -346,6 +346,15 @@ const ROWS: [Row; 35] = [
         used: 7,
         last: 1,
         shorter: "",
+    },
+    // of a capture, a `let` argument and an `inout` one, all changed inside, the last alone goes back
+    Row {
+        source: "struct P { var x: Int var y: Int }\nfun main() {\n  var p: P = P(1, 2)\n  var k: Int = 5\n  var n: Int = 7\n  let f: fun(Int, inout Int) -> Int = fun [k] (a: Int, b: inout Int) -> Int { &k = k + 30 &a = a + 40 &b = b + 50 return k + a }\n  print(f(n, &p.y))\n  print(p)\n  print(k + ^n)\n}\n",
+        output: "82\n(1, 52)\n12\n",
+        ending: "done",
+        used: 25,
+        last: 1,
+        shorter: "82\n(1, 52)\n",
     },
 ];
 

@@ -1,5 +1,5 @@
-use hv_layout::Layout;
 use hv_items::Items;
+use hv_layout::Layout;
 use hv_leaves::Sizes;
 use hv_pass::Range;
 use hv_plan::plan_of_body;

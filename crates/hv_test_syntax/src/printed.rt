@@ -1,5 +1,5 @@
-use hv_print::print;
 use hv_items::Items;
+use hv_print::print;
 use hv_tree::{Decl, Name, Place, StructDecl, Text, Tree};
 use std::test::Fail;
 

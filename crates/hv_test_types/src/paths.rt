@@ -1,6 +1,6 @@
-use hv_rules::{StaticPath, StaticStep, earlier, overlap};
 use hv_items::Items;
-use hv_tree::{Place, Refusal, Rule};
+use hv_decls::{StaticPath, StaticStep, overlap};
+use hv_tree::{Place, Refusal, Rule, earlier};
 use std::test::Fail;
 
 #[test]

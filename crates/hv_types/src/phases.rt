@@ -16,10 +16,9 @@ use crate::rounds::depths;
 use crate::structs::{judge_structs, names_of};
 use hv_items::Items;
 use hv_names::names;
-use hv_tree::first;
+use hv_tree::{Decl, Refusal, Tree, first};
 use hv_scope::Declared;
 use hv_texts::Texts;
-use hv_tree::{Decl, Refusal, Tree};
 use std::alloc::{AllocError as NoMemory, Global};
 
 // The names of the structs whose values have function values in them.
