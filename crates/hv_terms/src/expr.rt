@@ -9,10 +9,19 @@ ghost use Rattle.hv_terms.specs.Nests.{NestsExpr, NestsPlace, NestsStmts};
 
 use crate::grammar::Grammar;
 use hv_grammar::{Cursor, Stop, Strength};
-use hv_items::{Boxed, Items};
+use hv_items::{Boxed, Items, beside};
 use hv_tree::{Expr, ExprKind, Operator, Place, PlaceExpr, Stmt};
 use std::alloc::{AllocError, Global};
 
+fn only<T: Drop>(alloc: Global, item: T) -> Result<Items<T>, AllocError>
+    ensures { IfOk result (λ list. list ≡ item ∷ []) }
+{
+    let mut list = Items::new(alloc);
+    list.push(item)?;
+    Ok(list)
+}
+
+#[tactic(auto, unfolding(hv_items::specs::Kept::paired))]
 fn chained(
     alloc: Global,
     first: Expr,
@@ -24,9 +33,10 @@ fn chained(
         return Ok(first);
     }
     let place = first.place;
+    let (links, first) = beside(links, Boxed::new(alloc, first))?;
     Ok(Expr {
         place,
-        kind: ExprKind::Chain(Boxed::new(alloc, first)?, links),
+        kind: ExprKind::Chain(first, links),
     })
 }
 
@@ -95,6 +105,7 @@ impl<
     }
 
     #[cycle(levels)]
+    #[tactic(auto, unfolding(hv_items::specs::Kept::paired))]
     fn repeated(&self, cursor: &mut Cursor<'_>, strength: Strength) -> Result<Expr, Stop>
         requires expr { NestsExpr self.now.room (F.pre self.now.expr) (F.post self.now.expr) }
         requires place { NestsPlace self.now.room (P.pre self.now.place) (P.post self.now.place) }
@@ -102,11 +113,12 @@ impl<
         ensures { Reads (rule.repeated (level_of strength) (rule.operand (level_of strength) self.now.room (inner self.now.room)) cursor.old) result cursor.new }
     {
         let first = self.operand(cursor, strength)?;
-        let links = self.links(cursor, strength)?;
+        let (first, links) = beside(first, self.links(cursor, strength))?;
         Ok(chained(self.alloc, first, links)?)
     }
 
     #[cycle(levels)]
+    #[tactic(auto, unfolding(hv_items::specs::Kept::paired))]
     fn at_most_one(&self, cursor: &mut Cursor<'_>, strength: Strength) -> Result<Expr, Stop>
         requires expr { NestsExpr self.now.room (F.pre self.now.expr) (F.post self.now.expr) }
         requires place { NestsPlace self.now.room (P.pre self.now.place) (P.post self.now.place) }
@@ -117,9 +129,8 @@ impl<
         if !cursor.sees_infix(strength) {
             return Ok(first);
         }
-        let link = self.link(cursor, strength)?;
-        let mut links = Items::new(self.alloc);
-        links.push(link)?;
+        let (first, link) = beside(first, self.link(cursor, strength))?;
+        let (first, links) = beside(first, only(self.alloc, link))?;
         Ok(chained(self.alloc, first, links)?)
     }
 

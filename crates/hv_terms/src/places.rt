@@ -11,7 +11,7 @@ ghost use Rattle.hv_terms.specs.Parts.{parts_after, begins_keyed, begins_unkeyed
 
 use crate::grammar::Grammar;
 use hv_grammar::{Cursor, Stop};
-use hv_items::Items;
+use hv_items::{Items, beside};
 use hv_tree::{Arg, Block, Call, Expr, Name, Place, PlaceExpr, Step, Stmt};
 use std::alloc::Global;
 
@@ -56,13 +56,14 @@ impl<
     P: Fn(Global, &mut Cursor<'_>, usize) -> Result<PlaceExpr, Stop>,
     B: Fn(Global, &mut Cursor<'_>, usize) -> Result<Items<Stmt>, Stop>,
 > Grammar<F, P, B> {
+    #[tactic(auto, unfolding(hv_items::specs::Kept::paired))]
     fn index_step(&self, cursor: &mut Cursor<'_>) -> Result<Step, Stop>
         requires expr { NestsExpr self.now.room (F.pre self.now.expr) (F.post self.now.expr) }
         ensures { Reads (rule.index_step self.now.room (inner self.now.room) cursor.old) result cursor.new }
     {
         let left = cursor.opening(self.room, "[")?;
         let at = self.inner_expr(cursor)?;
-        cursor.mark("]")?;
+        let (at, _) = beside(at, cursor.mark("]"))?;
         Ok(Step::Index(left, at))
     }
 

@@ -13,7 +13,7 @@ ghost use Rattle.hv_terms.specs.Parts.{parts_after};
 use crate::grammar::Grammar;
 use crate::signatures::{bracketed_params, names, returned};
 use hv_grammar::{Cursor, Stop};
-use hv_items::{Boxed, Items};
+use hv_items::{Boxed, Items, beside};
 use hv_tree::{Expr, ExprKind, Name, Operator, Place, PlaceExpr, Stmt};
 use std::alloc::{AllocError, Global};
 
@@ -31,11 +31,12 @@ fn prefix_of(
     })
 }
 
+#[tactic(auto, unfolding(hv_items::specs::Kept::paired))]
 fn filled_of(alloc: Global, at: Place, len: Expr, value: Expr) -> Result<Expr, AllocError>
     ensures { IfOk result (λ x. x ≡ expr_at at (ExprKind.Filled len value)) }
 {
-    let len = Boxed::new(alloc, len)?;
-    let value = Boxed::new(alloc, value)?;
+    let (value, len) = beside(value, Boxed::new(alloc, len))?;
+    let (len, value) = beside(len, Boxed::new(alloc, value))?;
     Ok(Expr {
         place: at,
         kind: ExprKind::Filled(len, value),
@@ -106,14 +107,14 @@ impl<
         Ok(Expr { place, kind })
     }
 
-    #[tactic(auto, unfolding(hv_grammar::specs::Expressions::group))]
+    #[tactic(auto, unfolding(hv_grammar::specs::Expressions::group, hv_items::specs::Kept::paired))]
     fn group(&self, cursor: &mut Cursor<'_>) -> Result<Expr, Stop>
         requires expr { NestsExpr self.now.room (F.pre self.now.expr) (F.post self.now.expr) }
         ensures { Reads (rule.group self.now.room (inner self.now.room) cursor.old) result cursor.new }
     {
         cursor.opening(self.room, "(")?;
         let inner = self.inner_expr(cursor)?;
-        cursor.mark(")")?;
+        let (inner, _) = beside(inner, cursor.mark(")"))?;
         Ok(inner)
     }
 
@@ -151,7 +152,7 @@ impl<
         })
     }
 
-    #[tactic(auto, unfolding(hv_grammar::specs::Expressions::filled))]
+    #[tactic(auto, unfolding(hv_grammar::specs::Expressions::filled, hv_items::specs::Kept::paired))]
     fn filled(&self, cursor: &mut Cursor<'_>) -> Result<Expr, Stop>
         requires expr { NestsExpr self.now.room (F.pre self.now.expr) (F.post self.now.expr) }
         ensures { Reads (rule.filled self.now.room (inner self.now.room) cursor.old) result cursor.new }
@@ -159,9 +160,10 @@ impl<
         let at = cursor.keyword("filled")?;
         cursor.opening(self.room, "(")?;
         let len = self.inner_expr(cursor)?;
-        cursor.mark(",")?;
-        let value = self.inner_expr(cursor)?;
-        cursor.mark(")")?;
+        let (len, _) = beside(len, cursor.mark(","))?;
+        let (len, value) = beside(len, self.inner_expr(cursor))?;
+        let (both, _) = beside((len, value), cursor.mark(")"))?;
+        let (len, value) = both;
         Ok(filled_of(self.alloc, at, len, value)?)
     }
 
