@@ -15,7 +15,7 @@ use hv_init::init_refusal;
 use hv_node::End;
 use hv_parse::parse;
 use hv_plain::evaluate;
-use hv_report::refusal_line;
+use hv_report::refusal_text;
 use hv_token::lex;
 use hv_tree::{Refusal, Tree};
 use std::alloc::{AllocError, Global};
@@ -69,7 +69,7 @@ fn judge(alloc: Global, source: &[u8], tree: &Tree) -> Result<String, AllocError
     requires { length source.now < 4294967295 }
 {
     match first_violation(alloc, tree)? {
-        Some(refusal) => Ok(text_of(alloc, refusal_line(alloc, source, refusal)?)),
+        Some(refusal) => Ok(text_of(alloc, refusal_text(alloc, source, refusal)?)),
         None => String::from_str(alloc, "accepted\n"),
     }
 }

@@ -9,7 +9,7 @@ use Rattle.hv_copying.specs.Node.{Node, end_of}
 use Rattle.hv_copying.specs.Meaning.{node_of}
 use Rattle.hv_safe.specs.Runs.{Runs}
 use Rattle.hv_driver.specs.declared.status.Status.{Status}
-use Rattle.hv_report.specs.Lines.{refusal_line, report_of}
+use Rattle.hv_report.specs.Lines.{refusal_text, report_of}
 use Rattle.hv_driver.specs.Answer.{Answers, refused, checked, shown, unready, ran, IsCheck, IsShow, run_of, status_of}
 
 no_run_of_check : (asked : Asked) (p : ℕ × Bool) → IsCheck asked → run_of asked ≡ Some p → ⊥
@@ -37,7 +37,7 @@ module _ (asked : Asked) (bytes : List ℕ) where
   Same s t s' t' = (s' ≡ s) × (t' ≡ t)
 
   pub answers_once : (s s' : Status) (t t' : List ℕ) → Answers asked bytes s t → Answers asked bytes s' t' → Same s t s' t'
-  answers_once s s' t t' (refused r f e w) (refused r' f' e' w') = (e' ∙ sym e, w' ∙ ap (refusal_line bytes) (first_once bytes r r' f f') ∙ sym w)
+  answers_once s s' t t' (refused r f e w) (refused r' f' e' w') = (e' ∙ sym e, w' ∙ ap (refusal_text bytes) (first_once bytes r r' f f') ∙ sym w)
   answers_once s s' t t' (refused r f e w) (checked u a q e' w') = absurd (not_both bytes r u f a)
   answers_once s s' t t' (refused r f e w) (shown u a q e' w') = absurd (not_both bytes r u f a)
   answers_once s s' t t' (refused r f e w) (unready u n b a q m e' w') = absurd (not_both bytes r u f a)

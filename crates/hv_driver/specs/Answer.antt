@@ -10,7 +10,7 @@ use Rattle.hv_copying.specs.Node.{Node, End, end_of}
 use Rattle.hv_copying.specs.Node as node
 use Rattle.hv_copying.specs.Meaning.{node_of}
 use Rattle.hv_safe.specs.Runs.{Runs}
-use Rattle.hv_report.specs.Lines.{refusal_line, report_of}
+use Rattle.hv_report.specs.Lines.{refusal_text, report_of}
 use Rattle.hv_driver.specs.declared.status.Status.{Status}
 use Rattle.hv_driver.specs.declared.status.Status.TheVariants.{Done, Refused, Trapped, Spent, SourceFault, NoMemory}
 use Rattle.hv_driver.specs.Delivers.{Delivers}
@@ -50,7 +50,7 @@ run_of (run file steps trace) = Some (steps, trace)
 -- The status and the text for an order and bytes, one case a line of the command's table.
 pub data Answers (asked : Asked) (bytes : List ℕ) (status : Status) (text : List ℕ) : Type 0 where
   -- the first rule that the bytes violate
-  refused : (refusal : Refusal) → IsFirst bytes refusal → status ≡ Refused → text ≡ refusal_line bytes refusal → Answers asked bytes status text
+  refused : (refusal : Refusal) → IsFirst bytes refusal → status ≡ Refused → text ≡ refusal_text bytes refusal → Answers asked bytes status text
   checked : (tree : Tree) → IsAccepted bytes tree → IsCheck asked → status ≡ Done → text ≡ codes "accepted" ++ 10 ∷ [] → Answers asked bytes status text
   shown : (tree : Tree) → IsAccepted bytes tree → IsShow asked → status ≡ Done → text ≡ Printed tree → Answers asked bytes status text
   -- this program doesn't run yet

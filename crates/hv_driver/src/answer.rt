@@ -12,7 +12,7 @@ use hv_law_checked::accepted_programs_are_safe;
 use hv_node::End;
 use hv_plain::plain;
 use hv_print::print;
-use hv_report::{refusal_line, report};
+use hv_report::{refusal_text, report};
 use hv_runs::runs;
 use hv_tree::{Edition, Tree};
 use hv_words::Order;
@@ -58,7 +58,7 @@ pub fn answer(alloc: Global, order: &Order, source: &[u8]) -> Result<(Status, Ve
     let tree = match check(alloc, source, Edition::One) {
         Ok(tree) => tree,
         Err(CheckEnd::Refused(refusal)) => {
-            let text = refusal_line(alloc, source, refusal)?;
+            let text = refusal_text(alloc, source, refusal)?;
             return Ok((Status::Refused, text));
         }
         Err(CheckEnd::NoMemory) => return Err(AllocError),

@@ -1,8 +1,9 @@
 // The whole tool: the words, the source, the answer, the sink.
-ghost use Rattle.std.specs.Prelude.{◌≡◌, Some, None, map, string_bytes};
+ghost use Rattle.std.specs.Prelude.{◌≡◌, ◌⊎◌, Some, None, Ok, Err, IfOk, IfErr, map, string_bytes};
 ghost use Rattle.hv_ports.specs.Causes.{Rose};
 ghost use Rattle.hv_words.specs.Taken.{Asked, Taken};
 ghost use Rattle.hv_words.specs.Answers.{asked_of};
+ghost use Rattle.hv_words.specs.Answers as order;
 ghost use Rattle.hv_driver.specs.Delivers.{Delivers};
 ghost use Rattle.hv_driver.specs.Answer.{AnswersFile, IfAnswered, UnlessNoMemory, file_of, usage_line};
 
@@ -22,6 +23,19 @@ fn file_of(order: &Order) -> &str
         Order::Show { file } => file.as_str(),
         Order::Plain { file, .. } => file.as_str(),
         Order::Run { file, .. } => file.as_str(),
+    }
+}
+
+// The order that the words ask for, or the status where they give none.
+fn order_of(alloc: Global, words: &[String]) -> Result<Order, Status>
+    ensures taken { IfOk result (λ it. order.Answers (map string_bytes words.now) (Ok it)) }
+    ensures usage_only { result ≡ Err Status.Usage → (asked : Asked) → Taken (map string_bytes words.now) asked → ⊥ }
+    ensures ends { IfErr result (λ status. (status ≡ Status.Usage) ⊎ (status ≡ Status.NoMemory)) }
+{
+    match read_words(alloc, words) {
+        Ok(order) => Ok(order),
+        Err(WordsEnd::NoMemory) => Err(Status::NoMemory),
+        Err(WordsEnd::Usage) => Err(Status::Usage),
     }
 }
 
@@ -49,16 +63,16 @@ pub fn alone<S: Source, K: Sink>(
     ensures sink_fault { result ≡ Status.SinkFault → Rose (K.faults out.old) (K.faults out.new) }
     ensures no_memory { result ≡ Status.NoMemory → out.new ≡ out.old }
 {
-    let order = match read_words(alloc, words) {
+    let order = match order_of(alloc, words) {
         Ok(order) => order,
-        Err(WordsEnd::NoMemory) => return Status::NoMemory,
-        Err(WordsEnd::Usage) => {
+        Err(Status::Usage) => {
             return deliver(
                 out,
                 Status::Usage,
                 b"usage: hv check|show|plain|run|replay|gen\n",
             );
         }
+        Err(_) => return Status::NoMemory,
     };
     match read_file(alloc, file_of(&order), src) {
         Err(ReadEnd::Fault) => Status::SourceFault,

@@ -45,8 +45,8 @@ rule_name rule.S1 = codes "S1"
 rule_name rule.S2 = codes "S2"
 rule_name rule.S3 = codes "S3"
 
-abbrev pub refusal_line : List ℕ → Refusal → List ℕ
-refusal_line source refusal = codes "refused " ++ (rule_name refusal.rule ++ (codes " at " ++ at_place source refusal.place (10 ∷ [])))
+abbrev pub refusal_text : List ℕ → Refusal → List ℕ
+refusal_text source refusal = codes "refused " ++ (rule_name refusal.rule ++ (codes " at " ++ at_place source refusal.place (10 ∷ [])))
 
 -- ---- runs
 

@@ -4,5 +4,5 @@
 mod refusal;
 mod run;
 
-pub use refusal::refusal_line;
+pub use refusal::refusal_text;
 pub use run::report;

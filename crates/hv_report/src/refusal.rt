@@ -38,9 +38,9 @@ fn rule_name(rule: Rule) -> &'static str
 }
 
 /// The line of a refusal.
-pub fn refusal_line(alloc: Global, source: &[u8], refusal: Refusal) -> Result<Vec<u8>, AllocError>
+pub fn refusal_text(alloc: Global, source: &[u8], refusal: Refusal) -> Result<Vec<u8>, AllocError>
     requires { length source.now < 4294967295 }
-    ensures { IfOk result (λ text. text.items ≡ spec.refusal_line source.now refusal) }
+    ensures { IfOk result (λ text. text.items ≡ spec.refusal_text source.now refusal) }
 {
     let rule = rule_name(refusal.rule);
     let (line, column) = line_col(source, refusal.place);

@@ -2,7 +2,7 @@ use hv_copying::TrapKind;
 use hv_held::Held;
 use hv_items::Items;
 use hv_node::{End, TaskNode};
-use hv_report::{refusal_line, report};
+use hv_report::{refusal_text, report};
 use hv_tree::{Place, Refusal, Rule};
 use std::alloc::{AllocError as NoMemory, Global};
 use std::test::Fail;
@@ -52,7 +52,7 @@ fn a_run_has_its_report(rt: HostRuntime) -> Result<(), Fail> {
         place: at,
     };
     assert_eq!(rt;
-        refusal_line(alloc, SOURCE, refusal)?.as_slice(),
+        refusal_text(alloc, SOURCE, refusal)?.as_slice(),
         b"refused T8 at 2:11\n".as_slice()
     );
     Ok(())
