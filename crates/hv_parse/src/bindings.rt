@@ -7,20 +7,19 @@ ghost use Rattle.hv_terms.specs.Nests.{NestsExpr, NestsPlace, NestsStmts};
 
 use crate::statements::Statements;
 use hv_grammar::{Cursor, Stop};
-use hv_items::Items;
+use hv_items::{Items, beside};
 use hv_terms::type_at;
 use hv_tree::{Expr, Name, PlaceExpr, Stmt, StmtKind, Ty};
 use std::alloc::Global;
 
 /// A name and its type.
-#[tactic(auto, unfolding(hv_grammar::specs::Statements::typed_name))]
+#[tactic(auto, unfolding(hv_grammar::specs::Statements::typed_name, hv_items::specs::Kept::paired))]
 fn typed_name(alloc: Global, cursor: &mut Cursor<'_>, room: usize) -> Result<(Name, Ty), Stop>
     ensures { Reads (spec.typed_name room (inner room) cursor.old) result cursor.new }
 {
     let name = cursor.word(alloc)?;
-    cursor.mark(":")?;
-    let ty = type_at(alloc, cursor, room)?;
-    Ok((name, ty))
+    let (name, _) = beside(name, cursor.mark(":"))?;
+    beside(name, type_at(alloc, cursor, room))
 }
 
 impl<
@@ -42,7 +41,7 @@ impl<
         Ok(Some(self.terms.expr(cursor)?))
     }
 
-    #[tactic(auto, unfolding(hv_grammar::specs::Statements::var_stmt))]
+    #[tactic(auto, unfolding(hv_grammar::specs::Statements::var_stmt, hv_items::specs::Kept::paired))]
     pub(crate) fn var_stmt(&self, cursor: &mut Cursor<'_>) -> Result<Stmt, Stop>
         requires expr { NestsExpr self.now.terms.room (F.pre self.now.terms.expr) (F.post self.now.terms.expr) }
         requires place { NestsPlace self.now.terms.room (P.pre self.now.terms.place) (P.post self.now.terms.place) }
@@ -50,15 +49,15 @@ impl<
         ensures { Reads (spec.var_stmt self.now.terms.room (inner self.now.terms.room) cursor.old) result cursor.new }
     {
         let at = cursor.keyword("var")?;
-        let (name, ty) = typed_name(self.terms.alloc, cursor, self.terms.room)?;
-        let value = self.initial(cursor)?;
+        let named = typed_name(self.terms.alloc, cursor, self.terms.room)?;
+        let ((name, ty), value) = beside(named, self.initial(cursor))?;
         Ok(Stmt {
             place: at,
             kind: StmtKind::Var(name, ty, value),
         })
     }
 
-    #[tactic(auto, unfolding(hv_grammar::specs::Statements::let_stmt))]
+    #[tactic(auto, unfolding(hv_grammar::specs::Statements::let_stmt, hv_items::specs::Kept::paired))]
     pub(crate) fn let_stmt(&self, cursor: &mut Cursor<'_>) -> Result<Stmt, Stop>
         requires expr { NestsExpr self.now.terms.room (F.pre self.now.terms.expr) (F.post self.now.terms.expr) }
         requires place { NestsPlace self.now.terms.room (P.pre self.now.terms.place) (P.post self.now.terms.place) }
@@ -66,16 +65,16 @@ impl<
         ensures { Reads (spec.let_stmt self.now.terms.room (inner self.now.terms.room) cursor.old) result cursor.new }
     {
         let at = cursor.keyword("let")?;
-        let (name, ty) = typed_name(self.terms.alloc, cursor, self.terms.room)?;
-        cursor.mark("=")?;
-        let value = self.terms.expr(cursor)?;
+        let named = typed_name(self.terms.alloc, cursor, self.terms.room)?;
+        let (named, _) = beside(named, cursor.mark("="))?;
+        let ((name, ty), value) = beside(named, self.terms.expr(cursor))?;
         Ok(Stmt {
             place: at,
             kind: StmtKind::Let(name, ty, value),
         })
     }
 
-    #[tactic(auto, unfolding(hv_grammar::specs::Statements::inout_stmt))]
+    #[tactic(auto, unfolding(hv_grammar::specs::Statements::inout_stmt, hv_items::specs::Kept::paired))]
     pub(crate) fn inout_stmt(&self, cursor: &mut Cursor<'_>) -> Result<Stmt, Stop>
         requires expr { NestsExpr self.now.terms.room (F.pre self.now.terms.expr) (F.post self.now.terms.expr) }
         requires place { NestsPlace self.now.terms.room (P.pre self.now.terms.place) (P.post self.now.terms.place) }
@@ -83,17 +82,17 @@ impl<
         ensures { Reads (spec.inout_stmt self.now.terms.room (inner self.now.terms.room) cursor.old) result cursor.new }
     {
         let at = cursor.keyword("inout")?;
-        let (name, ty) = typed_name(self.terms.alloc, cursor, self.terms.room)?;
-        cursor.mark("=")?;
-        cursor.mark("&")?;
-        let place = self.terms.place(cursor)?;
+        let named = typed_name(self.terms.alloc, cursor, self.terms.room)?;
+        let (named, _) = beside(named, cursor.mark("="))?;
+        let (named, _) = beside(named, cursor.mark("&"))?;
+        let ((name, ty), place) = beside(named, self.terms.place(cursor))?;
         Ok(Stmt {
             place: at,
             kind: StmtKind::Inout(name, ty, place),
         })
     }
 
-    #[tactic(auto, unfolding(hv_grammar::specs::Statements::assign_stmt))]
+    #[tactic(auto, unfolding(hv_grammar::specs::Statements::assign_stmt, hv_items::specs::Kept::paired))]
     pub(crate) fn assign_stmt(&self, cursor: &mut Cursor<'_>) -> Result<Stmt, Stop>
         requires expr { NestsExpr self.now.terms.room (F.pre self.now.terms.expr) (F.post self.now.terms.expr) }
         requires place { NestsPlace self.now.terms.room (P.pre self.now.terms.place) (P.post self.now.terms.place) }
@@ -102,8 +101,8 @@ impl<
     {
         let at = cursor.mark("&")?;
         let place = self.terms.place(cursor)?;
-        cursor.mark("=")?;
-        let value = self.terms.expr(cursor)?;
+        let (place, _) = beside(place, cursor.mark("="))?;
+        let (place, value) = beside(place, self.terms.expr(cursor))?;
         Ok(Stmt {
             place: at,
             kind: StmtKind::Assign(place, value),

@@ -8,7 +8,7 @@ ghost use Rattle.hv_parse.specs.Parts.{parts_after};
 
 use crate::statements::Statements;
 use hv_grammar::{Cursor, ElsePart, Stop};
-use hv_items::Items;
+use hv_items::{Items, beside};
 use hv_tree::{Block, Branch, Expr, PlaceExpr, Stmt, StmtKind};
 use std::alloc::Global;
 
@@ -17,7 +17,7 @@ impl<
     P: Fn(Global, &mut Cursor<'_>, usize) -> Result<PlaceExpr, Stop>,
     B: Fn(Global, &mut Cursor<'_>, usize) -> Result<Items<Stmt>, Stop>,
 > Statements<F, P, B> {
-    #[tactic(auto, unfolding(hv_grammar::specs::Statements::branch))]
+    #[tactic(auto, unfolding(hv_grammar::specs::Statements::branch, hv_items::specs::Kept::paired))]
     fn branch(&self, cursor: &mut Cursor<'_>) -> Result<Branch, Stop>
         requires expr { NestsExpr self.now.terms.room (F.pre self.now.terms.expr) (F.post self.now.terms.expr) }
         requires place { NestsPlace self.now.terms.room (P.pre self.now.terms.place) (P.post self.now.terms.place) }
@@ -26,7 +26,7 @@ impl<
     {
         cursor.keyword("if")?;
         let test = self.terms.expr(cursor)?;
-        let body = self.terms.block(cursor)?;
+        let (test, body) = beside(test, self.terms.block(cursor))?;
         Ok(Branch { test, body })
     }
 
@@ -72,7 +72,7 @@ impl<
         Ok((found, None))
     }
 
-    #[tactic(auto, using(crate::proofs::ElseTurns::parts_then), unfolding(hv_grammar::specs::Statements::if_stmt))]
+    #[tactic(auto, using(crate::proofs::ElseTurns::parts_then), unfolding(hv_grammar::specs::Statements::if_stmt, hv_items::specs::Kept::paired))]
     pub(crate) fn if_stmt(&self, cursor: &mut Cursor<'_>) -> Result<Stmt, Stop>
         requires expr { NestsExpr self.now.terms.room (F.pre self.now.terms.expr) (F.post self.now.terms.expr) }
         requires place { NestsPlace self.now.terms.room (P.pre self.now.terms.place) (P.post self.now.terms.place) }
@@ -81,7 +81,7 @@ impl<
     {
         let at = cursor.keyword("if")?;
         let test = self.terms.expr(cursor)?;
-        let body = self.terms.block(cursor)?;
+        let (test, body) = beside(test, self.terms.block(cursor))?;
         let (branches, otherwise) = self.branches_from(cursor, Branch { test, body })?;
         Ok(Stmt {
             place: at,
@@ -89,7 +89,7 @@ impl<
         })
     }
 
-    #[tactic(auto, unfolding(hv_grammar::specs::Statements::while_stmt))]
+    #[tactic(auto, unfolding(hv_grammar::specs::Statements::while_stmt, hv_items::specs::Kept::paired))]
     pub(crate) fn while_stmt(&self, cursor: &mut Cursor<'_>) -> Result<Stmt, Stop>
         requires expr { NestsExpr self.now.terms.room (F.pre self.now.terms.expr) (F.post self.now.terms.expr) }
         requires place { NestsPlace self.now.terms.room (P.pre self.now.terms.place) (P.post self.now.terms.place) }
@@ -98,7 +98,7 @@ impl<
     {
         let at = cursor.keyword("while")?;
         let test = self.terms.expr(cursor)?;
-        let body = self.terms.block(cursor)?;
+        let (test, body) = beside(test, self.terms.block(cursor))?;
         Ok(Stmt {
             place: at,
             kind: StmtKind::While(test, body),

@@ -9,7 +9,7 @@ ghost use Rattle.hv_tree.specs.Refusal.{most_open};
 use crate::knot::block_at;
 use crate::marks::semicolon;
 use hv_grammar::{Cursor, Stop};
-use hv_items::Items;
+use hv_items::{Items, beside};
 use hv_terms::{bracketed_params, returned, type_at};
 use hv_tree::{Decl, Field, FunDecl, StructDecl, Tree};
 use std::alloc::Global;
@@ -17,15 +17,15 @@ use std::alloc::Global;
 /// How many brackets may be open.
 const MOST_OPEN: usize = 100;
 
-#[tactic(auto, unfolding(hv_grammar::specs::Declarations::field))]
+#[tactic(auto, unfolding(hv_grammar::specs::Declarations::field, hv_items::specs::Kept::paired))]
 fn field(alloc: Global, cursor: &mut Cursor<'_>, room: usize) -> Result<Field, Stop>
     ensures { Reads (spec.field room cursor.old) result cursor.new }
 {
     cursor.keyword("var")?;
     let name = cursor.word(alloc)?;
-    cursor.mark(":")?;
-    let ty = type_at(alloc, cursor, room)?;
-    semicolon(cursor)?;
+    let (name, _) = beside(name, cursor.mark(":"))?;
+    let typed = beside(name, type_at(alloc, cursor, room))?;
+    let ((name, ty), _) = beside(typed, semicolon(cursor))?;
     Ok(Field { name, ty })
 }
 
@@ -44,27 +44,27 @@ fn fields(alloc: Global, cursor: &mut Cursor<'_>, room: usize) -> Result<Items<F
     Ok(found)
 }
 
-#[tactic(auto, unfolding(hv_grammar::specs::Declarations::struct_decl))]
+#[tactic(auto, unfolding(hv_grammar::specs::Declarations::struct_decl, hv_items::specs::Kept::paired))]
 fn struct_decl(alloc: Global, cursor: &mut Cursor<'_>, room: usize) -> Result<Decl, Stop>
     ensures { Reads (spec.struct_decl room cursor.old) result cursor.new }
 {
     cursor.keyword("struct")?;
     let name = cursor.word(alloc)?;
-    cursor.opening(room, "{")?;
-    let fields = fields(alloc, cursor, room - 1)?;
-    cursor.mark("}")?;
+    let (name, _) = beside(name, cursor.opening(room, "{"))?;
+    let named = beside(name, fields(alloc, cursor, room - 1))?;
+    let ((name, fields), _) = beside(named, cursor.mark("}"))?;
     Ok(Decl::Struct(StructDecl { name, fields }))
 }
 
-#[tactic(auto, unfolding(hv_grammar::specs::Declarations::fun_decl))]
+#[tactic(auto, unfolding(hv_grammar::specs::Declarations::fun_decl, hv_items::specs::Kept::paired))]
 fn fun_decl(alloc: Global, cursor: &mut Cursor<'_>, room: usize) -> Result<Decl, Stop>
     ensures { Reads (spec.fun_decl room cursor.old) result cursor.new }
 {
     cursor.keyword("fun")?;
     let name = cursor.word(alloc)?;
-    let params = bracketed_params(alloc, cursor, room)?;
-    let returned = returned(alloc, cursor, room)?;
-    let body = block_at(alloc, cursor, room)?;
+    let taking = beside(name, bracketed_params(alloc, cursor, room))?;
+    let giving = beside(taking, returned(alloc, cursor, room))?;
+    let (((name, params), returned), body) = beside(giving, block_at(alloc, cursor, room))?;
     Ok(Decl::Fun(FunDecl {
         name,
         params,

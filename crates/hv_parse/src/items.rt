@@ -11,7 +11,7 @@ ghost use Rattle.hv_terms.specs.Nests.{NestsExpr, NestsPlace, NestsStmts};
 use crate::marks::semicolon;
 use crate::statements::Statements;
 use hv_grammar::{Cursor, Stop};
-use hv_items::Items;
+use hv_items::{Items, beside};
 use hv_tree::{Expr, Place, PlaceExpr, Stmt, StmtKind};
 use std::alloc::Global;
 
@@ -66,7 +66,7 @@ impl<
     P: Fn(Global, &mut Cursor<'_>, usize) -> Result<PlaceExpr, Stop>,
     B: Fn(Global, &mut Cursor<'_>, usize) -> Result<Items<Stmt>, Stop>,
 > Statements<F, P, B> {
-    #[tactic(auto, unfolding(hv_grammar::specs::Statements::valued_return))]
+    #[tactic(auto, unfolding(hv_grammar::specs::Statements::valued_return, hv_items::specs::Kept::paired))]
     fn valued_return(&self, cursor: &mut Cursor<'_>, at: Place) -> Result<(Stmt, bool), Stop>
         requires expr { NestsExpr self.now.terms.room (F.pre self.now.terms.expr) (F.post self.now.terms.expr) }
         requires place { NestsPlace self.now.terms.room (P.pre self.now.terms.place) (P.post self.now.terms.place) }
@@ -74,7 +74,7 @@ impl<
         ensures { Reads (spec.valued_return self.now.terms.room (inner self.now.terms.room) at cursor.old) result cursor.new }
     {
         let value = self.terms.expr(cursor)?;
-        semicolon(cursor)?;
+        let (value, _) = beside(value, semicolon(cursor))?;
         Ok(returned(at, Some(value), false))
     }
 

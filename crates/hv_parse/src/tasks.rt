@@ -7,7 +7,7 @@ ghost use Rattle.hv_terms.specs.Nests.{NestsExpr, NestsPlace, NestsStmts};
 
 use crate::statements::Statements;
 use hv_grammar::{Cursor, Stop};
-use hv_items::Items;
+use hv_items::{Items, beside};
 use hv_terms::type_at;
 use hv_tree::{Expr, Place, PlaceExpr, Stmt, StmtKind, Ty};
 use std::alloc::Global;
@@ -29,7 +29,7 @@ impl<
     P: Fn(Global, &mut Cursor<'_>, usize) -> Result<PlaceExpr, Stop>,
     B: Fn(Global, &mut Cursor<'_>, usize) -> Result<Items<Stmt>, Stop>,
 > Statements<F, P, B> {
-    #[tactic(auto, unfolding(hv_grammar::specs::Statements::print_stmt))]
+    #[tactic(auto, unfolding(hv_grammar::specs::Statements::print_stmt, hv_items::specs::Kept::paired))]
     pub(crate) fn print_stmt(&self, cursor: &mut Cursor<'_>) -> Result<Stmt, Stop>
         requires expr { NestsExpr self.now.terms.room (F.pre self.now.terms.expr) (F.post self.now.terms.expr) }
         requires place { NestsPlace self.now.terms.room (P.pre self.now.terms.place) (P.post self.now.terms.place) }
@@ -39,7 +39,7 @@ impl<
         let at = cursor.keyword("print")?;
         cursor.opening(self.terms.room, "(")?;
         let value = self.terms.inner_expr(cursor)?;
-        cursor.mark(")")?;
+        let (value, _) = beside(value, cursor.mark(")"))?;
         Ok(Stmt {
             place: at,
             kind: StmtKind::Print(value),
@@ -47,7 +47,7 @@ impl<
     }
 
     /// The place of the word `spawn`, and the budget behind it.
-    #[tactic(auto, unfolding(hv_grammar::specs::Statements::budget))]
+    #[tactic(auto, unfolding(hv_grammar::specs::Statements::budget, hv_items::specs::Kept::paired))]
     fn budget(&self, cursor: &mut Cursor<'_>) -> Result<(Place, Expr), Stop>
         requires expr { NestsExpr self.now.terms.room (F.pre self.now.terms.expr) (F.post self.now.terms.expr) }
         requires place { NestsPlace self.now.terms.room (P.pre self.now.terms.place) (P.post self.now.terms.place) }
@@ -57,11 +57,11 @@ impl<
         let spawn = cursor.keyword("spawn")?;
         cursor.opening(self.terms.room, "(")?;
         let budget = self.terms.inner_expr(cursor)?;
-        cursor.mark(")")?;
+        let (budget, _) = beside(budget, cursor.mark(")"))?;
         Ok((spawn, budget))
     }
 
-    #[tactic(auto, unfolding(hv_grammar::specs::Statements::task_stmt))]
+    #[tactic(auto, unfolding(hv_grammar::specs::Statements::task_stmt, hv_items::specs::Kept::paired))]
     pub(crate) fn task_stmt(&self, cursor: &mut Cursor<'_>) -> Result<Stmt, Stop>
         requires expr { NestsExpr self.now.terms.room (F.pre self.now.terms.expr) (F.post self.now.terms.expr) }
         requires place { NestsPlace self.now.terms.room (P.pre self.now.terms.place) (P.post self.now.terms.place) }
@@ -70,10 +70,13 @@ impl<
     {
         let at = cursor.keyword("task")?;
         let name = cursor.word(self.terms.alloc)?;
-        let ty = task_type(self.terms.alloc, cursor, self.terms.room)?;
-        cursor.mark("=")?;
-        let (spawn, budget) = self.budget(cursor)?;
-        let (_, call) = self.terms.call(cursor)?;
+        let typed = beside(
+            name,
+            task_type(self.terms.alloc, cursor, self.terms.room),
+        )?;
+        let (typed, _) = beside(typed, cursor.mark("="))?;
+        let spawned = beside(typed, self.budget(cursor))?;
+        let (((name, ty), (spawn, budget)), (_, call)) = beside(spawned, self.terms.call(cursor))?;
         Ok(Stmt {
             place: at,
             kind: StmtKind::Task(name, ty, spawn, budget, call),
