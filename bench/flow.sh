@@ -10,19 +10,19 @@ here=$(pwd)
 work=$(mktemp -d)
 trap 'rm -rf "$work"' EXIT
 mkdir -p "$work/crates/plan_bench/src"
-for name in hv_items hv_tree hv_rules hv_texts hv_scope hv_plan; do
+for name in hv_items hv_tree hv_rules hv_symbols hv_scope hv_flow_plan; do
     mkdir "$work/crates/$name"
     cp -r "$here/crates/$name/src" "$here/crates/$name/specs" "$work/crates/$name/"
     if [ -d "$here/crates/$name/proofs" ]; then cp -r "$here/crates/$name/proofs" "$work/crates/$name/"; fi
     grep "^$name:" "$here/crates.txt" >> "$work/crates.txt"
 done
 cp "$here/HANDLES" "$work/"
-echo 'plan_bench: hv_plan hv_scope hv_rules hv_texts hv_tree hv_items' >> "$work/crates.txt"
+echo 'plan_bench: hv_flow_plan hv_scope hv_rules hv_symbols hv_tree hv_items' >> "$work/crates.txt"
 cat > "$work/crates/plan_bench/src/main.rt" <<'END_OF_PROGRAM'
 //! Times the plans of bodies of several forms and lengths.
 #![tactic(auto)]
 
-use hv_plan::plans;
+use hv_flow_plan::plans;
 use hv_tree::{
     Block, Branch, Call, Conv, Expr, FunDecl, Name, Operator, Param, Place, PlaceExpr, Stmt, Tree,
     builders as build,

@@ -5,12 +5,12 @@ use Rattle.hv_tree.specs.declared.place.Place.{Place}
 use Rattle.hv_tree.specs.declared.refusal.Rule.TheVariants as rule
 use Rattle.hv_tree.specs.declared.refusal.Refusal.{Refusal}
 use Rattle.hv_lemmas.proofs.Members.{Among, in_left, in_right, either_in}
-use Rattle.hv_pass.specs.Refused.{Values, covers, after_acts}
+use Rattle.hv_flow_pass.specs.Refused.{Values, covers, after_acts}
 use Rattle.hv_rules.specs.States.{HandleState, with_handle}
-use Rattle.hv_ends.specs.declared.span.Span.{Span}
-use Rattle.hv_ends.specs.Ends.{numbers_from, numbers_in}
+use Rattle.hv_flow_ends.specs.declared.span.Span.{Span}
+use Rattle.hv_flow_ends.specs.Ends.{numbers_from, numbers_in}
 use Rattle.hv_await.specs.Acts.{cell, refusal, none_left}
-use Rattle.hv_ends.proofs.Playing.{AnyRefuses}
+use Rattle.hv_flow_ends.proofs.Playing.{AnyRefuses}
 
 -- ---- one cell
 

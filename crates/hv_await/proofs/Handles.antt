@@ -14,25 +14,25 @@ use Rattle.hv_rules.specs.Events.{Belongs, Mark, Events, body_events}
 use Rattle.hv_rules.specs.States.{HandleState, NotSpawned, Spawned, Awaited, State, start, after_event, after, state_after}
 use Rattle.hv_rules.specs.Rules.{handles_at, IsViolatedIn}
 use Rattle.hv_lemmas.proofs.Members.{listed, contained}
-use Rattle.hv_pass.specs.declared.act.Act.{Act}
-use Rattle.hv_pass.specs.Refused.{Values, after_acts, Refuses, IsRefused}
-use Rattle.hv_pass.specs.Refused as pass
-use Rattle.hv_pass.specs.declared.plan.PassOp.{PassOp}
-use Rattle.hv_pass.specs.declared.plan.PassOp.TheVariants as pass_op
-use Rattle.hv_pass.specs.Plans as plans
-use Rattle.hv_pass.proofs.Firsts.{same_first}
-use Rattle.hv_plan.specs.declared.plan.FlowOp.{FlowOp}
-use Rattle.hv_plan.specs.Spelling.{plan_of, plan_of_body}
-use Rattle.hv_traces.specs.Mapped.{mapped}
-use Rattle.hv_traces.proofs.MappedLemmas.{traces, map-append}
-use Rattle.hv_ends.specs.declared.span.End.{End}
-use Rattle.hv_ends.specs.Ends.{is_end, numbers_in, belongs_by, ends_in, AllAgree}
-use Rattle.hv_ends.specs.Words.{IsLocal, words}
-use Rattle.hv_ends.proofs.Handed.{Handed, other, ended, mark_of, acts_of, told_body}
+use Rattle.hv_flow_pass.specs.declared.act.Act.{Act}
+use Rattle.hv_flow_pass.specs.Refused.{Values, after_acts, Refuses, IsRefused}
+use Rattle.hv_flow_pass.specs.Refused as pass
+use Rattle.hv_flow_pass.specs.declared.plan.PassOp.{PassOp}
+use Rattle.hv_flow_pass.specs.declared.plan.PassOp.TheVariants as pass_op
+use Rattle.hv_flow_pass.specs.Plans as plans
+use Rattle.hv_flow_pass.proofs.Firsts.{same_first}
+use Rattle.hv_flow_plan.specs.declared.plan.FlowOp.{FlowOp}
+use Rattle.hv_flow_plan.specs.Spelling.{plan_of, plan_of_body}
+use Rattle.hv_flow_traces.specs.Mapped.{mapped}
+use Rattle.hv_flow_traces.proofs.MappedLemmas.{traces, map-append}
+use Rattle.hv_flow_ends.specs.declared.span.End.{End}
+use Rattle.hv_flow_ends.specs.Ends.{is_end, numbers_in, belongs_by, ends_in, AllAgree}
+use Rattle.hv_flow_ends.specs.Words.{IsLocal, words}
+use Rattle.hv_flow_ends.proofs.Handed.{Handed, other, ended, mark_of, acts_of, told_body}
 use Rattle.hv_await.specs.Acts.{refusal, first_ends, left_event, left_acts, again_acts}
 use Rattle.hv_await.specs.Ops.{again_op, again_ops}
 use Rattle.hv_await.specs.Found.{InBody}
-use Rattle.hv_ends.proofs.Playing.{AnyRefuses, values, refused_at, refused_of, last_of, all_fit}
+use Rattle.hv_flow_ends.proofs.Playing.{AnyRefuses, values, refused_at, refused_of, last_of, all_fit}
 use Rattle.hv_await.proofs.Cells.{Has, set_fits, only_cell, own_cell, ends_refuse, refused_at_end, ends_keep}
 
 -- ---- what a cell says of its handle

@@ -14,7 +14,7 @@ use Rattle.hv_type_rules.specs.TypeRules.{at_part, at_struct}
 use Rattle.hv_rules.specs.Accepted.{HandlePhase, phase_of, IsViolated, IsViolatedInPhase}
 use Rattle.hv_lemmas.proofs.Members.{Among, in_left, in_right, either_in, listed, contained}
 use Rattle.hv_tree.proofs.Orders.{through}
-use Rattle.hv_pass.proofs.Firsts.{same_first}
+use Rattle.hv_flow_pass.proofs.Firsts.{same_first}
 use Rattle.hv_await.specs.Acts.{refusal}
 use Rattle.hv_await.specs.Changing.{if_so, takes_change, call_changes, stmt_changes, branch_changes, block_changes, stmts_changes, body_changes}
 use Rattle.hv_await.specs.Found.{Heads, Adds, OfBody, OfBodies}

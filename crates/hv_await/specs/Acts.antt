@@ -6,12 +6,12 @@ use Rattle.hv_tree.specs.declared.refusal.Rule.TheVariants as rule
 use Rattle.hv_tree.specs.declared.refusal.Refusal.{Refusal}
 use Rattle.hv_rules.specs.declared.event.FlowEvent.{FlowEvent}
 use Rattle.hv_rules.specs.declared.event.FlowEvent.TheVariants as event
-use Rattle.hv_pass.specs.declared.act.Range.{Range}
-use Rattle.hv_pass.specs.declared.act.Act.{Act}
-use Rattle.hv_pass.specs.declared.act.Act.TheVariants as act
-use Rattle.hv_ends.specs.declared.span.Span.{Span}
-use Rattle.hv_ends.specs.declared.span.End.{End}
-use Rattle.hv_ends.specs.Ends.{is_end}
+use Rattle.hv_flow_pass.specs.declared.act.Range.{Range}
+use Rattle.hv_flow_pass.specs.declared.act.Act.{Act}
+use Rattle.hv_flow_pass.specs.declared.act.Act.TheVariants as act
+use Rattle.hv_flow_ends.specs.declared.span.Span.{Span}
+use Rattle.hv_flow_ends.specs.declared.span.End.{End}
+use Rattle.hv_flow_ends.specs.Ends.{is_end}
 
 -- the cell of a handle
 abbrev pub cell : ℕ → Range

@@ -15,7 +15,7 @@ use Rattle.hv_decls.specs.Locals.{Local, binds, listed, local_in, CoreBody, entr
 use Rattle.hv_rules.specs.Events.{callee_by}
 use Rattle.hv_rules.specs.Events as events
 use Rattle.hv_rules.specs.Rules.{convs_or_none}
-use Rattle.hv_plan.specs.Scopes.{param_types}
+use Rattle.hv_flow_plan.specs.Scopes.{param_types}
 use Rattle.hv_await.specs.declared.callee.Callee.{Callee}
 use Rattle.hv_await.specs.declared.callee.Callee.TheVariants as callee
 use Rattle.hv_await.specs.Acts.{refusal}

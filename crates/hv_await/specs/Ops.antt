@@ -1,9 +1,9 @@
 -- The plan of acts that finds handles that are awaited again, word by word of a body's plan of events.
 use Rattle.std.specs.Prelude.{List, map}
-use Rattle.hv_pass.specs.declared.plan.PassOp.{PassOp}
-use Rattle.hv_pass.specs.declared.plan.PassOp.TheVariants as pass
-use Rattle.hv_plan.specs.declared.plan.FlowOp.{FlowOp}
-use Rattle.hv_plan.specs.declared.plan.FlowOp.TheVariants as op
+use Rattle.hv_flow_pass.specs.declared.plan.PassOp.{PassOp}
+use Rattle.hv_flow_pass.specs.declared.plan.PassOp.TheVariants as pass
+use Rattle.hv_flow_plan.specs.declared.plan.FlowOp.{FlowOp}
+use Rattle.hv_flow_plan.specs.declared.plan.FlowOp.TheVariants as op
 use Rattle.hv_await.specs.Acts.{again_acts}
 
 abbrev pub again_op : FlowOp → PassOp

@@ -2,9 +2,9 @@
 ghost use Rattle.std.specs.Prelude.{◌≡◌, map, IfOk};
 ghost use Rattle.hv_await.specs.Acts as spec;
 
-use hv_ends::{End, Span, is_end};
+use hv_flow_ends::{End, Span, is_end};
 use hv_items::Items;
-use hv_pass::{Act, Range};
+use hv_flow_pass::{Act, Range};
 use hv_rules::FlowEvent;
 use hv_tree::{Place, Refusal, Rule};
 use std::alloc::{AllocError as NoMemory, Global};

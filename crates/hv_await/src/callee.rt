@@ -8,7 +8,7 @@ ghost use Rattle.hv_decls.specs.Locals.{local_in};
 ghost use Rattle.hv_rules.specs.Rules.{convs_or_none};
 ghost use Rattle.hv_rules.specs.Events as events;
 ghost use Rattle.hv_scope.specs.Known.{local_by, typed};
-ghost use Rattle.hv_plan.specs.Scopes.{param_types};
+ghost use Rattle.hv_flow_plan.specs.Scopes.{param_types};
 ghost use Rattle.hv_await.specs.Changing as spec;
 
 use hv_scope::{Declared, Visible, type_behind};
@@ -63,7 +63,7 @@ fn changes(callee: Callee<'_>) -> bool
     }
 }
 
-#[tactic(auto, using(hv_plan::proofs::TypeLemmas::called_opened, hv_plan::proofs::TypeLemmas::called_fun), unfolding(hv_plan::proofs::TypeLemmas::called_by))]
+#[tactic(auto, using(hv_flow_plan::proofs::TypeLemmas::called_opened, hv_flow_plan::proofs::TypeLemmas::called_fun), unfolding(hv_flow_plan::proofs::TypeLemmas::called_by))]
 fn called<'t>(ty: Option<&'t Ty>) -> Callee<'t>
     ensures { spec.taken_by result ≡ events.by_type (typed (option_copied ty.entry)) }
 {

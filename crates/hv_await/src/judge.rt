@@ -5,21 +5,21 @@ ghost use Rattle.hv_rules.specs.Accepted.{HandlePhase, IsViolatedInPhase};
 ghost use Rattle.hv_tree.specs.Earlier.{IsFirst};
 ghost use Rattle.hv_rules.specs.Flow.{Flow};
 ghost use Rattle.hv_decls.specs.Locals.{listed};
-ghost use Rattle.hv_pass.specs.Plans.{plan_of};
-ghost use Rattle.hv_pass.specs.Refused.{IsRefused};
-ghost use Rattle.hv_pass.specs.declared.act.Act.{Act};
+ghost use Rattle.hv_flow_pass.specs.Plans.{plan_of};
+ghost use Rattle.hv_flow_pass.specs.Refused.{IsRefused};
+ghost use Rattle.hv_flow_pass.specs.declared.act.Act.{Act};
 ghost use Rattle.hv_scope.specs.Bodies.{body_by};
 ghost use Rattle.hv_await.specs.Found.{Adds, OfBodies, OfBody};
-ghost use Rattle.hv_ends.specs.Words.{words};
+ghost use Rattle.hv_flow_ends.specs.Words.{words};
 ghost use Rattle.hv_await.specs.Acts.{left_acts};
 ghost use Rattle.hv_await.specs.Ops as spec;
 
 use crate::changing::judge_changes;
 use crate::ops::{again_ops, left_ops};
-use hv_ends::{End, ends_of, without_entry};
+use hv_flow_ends::{End, ends_of, without_entry};
 use hv_tree::{Refusal, Tree, first};
-use hv_pass::first_refusal;
-use hv_plan::{FlowOp, plan_of_body};
+use hv_flow_pass::first_refusal;
+use hv_flow_plan::{FlowOp, plan_of_body};
 use hv_scope::{Body, Declared, bodies_of};
 use std::alloc::{AllocError as NoMemory, Global};
 

@@ -1,14 +1,14 @@
 // The plans of acts of a body.
 ghost use Rattle.std.specs.Prelude.{◌≡◌, IfOk};
-ghost use Rattle.hv_ends.specs.Words.{word, words};
+ghost use Rattle.hv_flow_ends.specs.Words.{word, words};
 ghost use Rattle.hv_await.specs.Acts.{left_acts};
 ghost use Rattle.hv_await.specs.Ops as spec;
 
 use crate::acts::{again_acts, left_acts};
-use hv_ends::{End, ends_behind};
+use hv_flow_ends::{End, ends_behind};
 use hv_items::Items;
-use hv_pass::PassOp;
-use hv_plan::FlowOp;
+use hv_flow_pass::PassOp;
+use hv_flow_plan::FlowOp;
 use std::alloc::{AllocError as NoMemory, Global};
 
 fn left_op(alloc: Global, op: &FlowOp, to_come: &[End]) -> Result<PassOp, NoMemory>

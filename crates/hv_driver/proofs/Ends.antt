@@ -3,7 +3,7 @@ use Rattle.std.proofs.Common.{◌≡◌, ℕ, List, Option, refl, sym, ◌∙◌
 use Rattle.std.specs.Prelude.{Bool, true, false, IsTrue, ◌↔◌}
 use Rattle.hv_words.specs.Taken.{Asked, Taken, Word}
 use Rattle.hv_ports.specs.Causes.{Rose}
-use Rattle.hv_copying.specs.Node.{End, Done, Trapped, SpentAt, end_of}
+use Rattle.hv_sem_copying.specs.Node.{End, Done, Trapped, SpentAt, end_of}
 use Rattle.hv_driver.specs.declared.status.Status.{Status}
 use Rattle.hv_driver.specs.declared.status.Status.TheVariants.{Usage, SourceFault, SinkFault, NoMemory}
 use Rattle.hv_driver.specs.Delivers.{Delivers}

@@ -5,9 +5,9 @@ use Rattle.hv_tree.specs.Core.{core_tree}
 use Rattle.hv_tree.specs.Printed.{Printed}
 use Rattle.hv_words.specs.Taken.{Asked, check, show}
 use Rattle.hv_check.proofs.Sources.{first_once, accepted_once, not_both}
-use Rattle.hv_copying.specs.Node.{Node, end_of}
-use Rattle.hv_copying.specs.Meaning.{node_of}
-use Rattle.hv_safe.specs.Runs.{Runs}
+use Rattle.hv_sem_copying.specs.Node.{Node, end_of}
+use Rattle.hv_sem_copying.specs.Meaning.{node_of}
+use Rattle.hv_law_safe.specs.Runs.{Runs}
 use Rattle.hv_driver.specs.declared.status.Status.{Status}
 use Rattle.hv_report.specs.Lines.{refusal_text, report_of}
 use Rattle.hv_driver.specs.Answer.{Answers, refused, checked, shown, unready, ran, IsCheck, IsShow, run_of, status_of}

@@ -6,10 +6,10 @@ use Rattle.hv_tree.specs.Core.{core_tree}
 use Rattle.hv_tree.specs.Printed.{Printed}
 use Rattle.hv_words.specs.Taken.{Asked, check, show, plain, run}
 use Rattle.hv_check.specs.Checks.{IsAccepted, IsFirst}
-use Rattle.hv_copying.specs.Node.{Node, End, end_of}
-use Rattle.hv_copying.specs.Node as node
-use Rattle.hv_copying.specs.Meaning.{node_of}
-use Rattle.hv_safe.specs.Runs.{Runs}
+use Rattle.hv_sem_copying.specs.Node.{Node, End, end_of}
+use Rattle.hv_sem_copying.specs.Node as node
+use Rattle.hv_sem_copying.specs.Meaning.{node_of}
+use Rattle.hv_law_safe.specs.Runs.{Runs}
 use Rattle.hv_report.specs.Lines.{refusal_text, report_of}
 use Rattle.hv_driver.specs.declared.status.Status.{Status}
 use Rattle.hv_driver.specs.declared.status.Status.TheVariants.{Done, Refused, Trapped, Spent, SourceFault, NoMemory}

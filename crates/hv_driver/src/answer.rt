@@ -1,6 +1,6 @@
 // The status and the text for an order and the bytes of its file.
 ghost use Rattle.std.specs.Prelude.{◌≡◌, ◌≤◌, Some, length, IfOk};
-ghost use Rattle.hv_node.specs.Seen.{end_seen};
+ghost use Rattle.hv_task_tree.specs.Seen.{end_seen};
 ghost use Rattle.hv_check.specs.Checks.{IsAccepted};
 ghost use Rattle.hv_words.specs.Taken.{Asked};
 ghost use Rattle.hv_words.specs.Answers.{asked_of};
@@ -9,8 +9,8 @@ ghost use Rattle.hv_driver.specs.Answer.{Answers, status_of, run_of};
 use crate::Status;
 use hv_check::{CheckEnd, check};
 use hv_law_checked::accepted_programs_are_safe;
-use hv_node::End;
-use hv_plain::plain;
+use hv_task_tree::End;
+use hv_meaning::plain;
 use hv_print::print;
 use hv_report::{refusal_text, report};
 use hv_runs::runs;

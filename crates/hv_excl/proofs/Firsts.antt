@@ -14,15 +14,15 @@ use Rattle.hv_type_rules.specs.TypeRules.{IsViolatedByTypes, at_part, at_struct}
 use Rattle.hv_rules.specs.Rules.{IsViolatedIn, in_body, at_task}
 use Rattle.hv_rules.specs.Accepted.{AccessPhase, IsViolated, IsViolatedInPhase}
 use Rattle.hv_tree.specs.Earlier.{number_of, NotAfter, IsEarlier, IsFirst}
-use Rattle.hv_plan.specs.declared.plan.FlowOp.{FlowOp}
-use Rattle.hv_plan.specs.declared.body.Planned.{Planned}
-use Rattle.hv_plan.specs.Planned.{planned_by, planned, all_planned}
-use Rattle.hv_plan.specs.Spelling.{plan_of_body}
-use Rattle.hv_pass.specs.declared.act.Act.{Act}
-use Rattle.hv_pass.specs.declared.plan.PassOp.{PassOp}
-use Rattle.hv_pass.specs.Plans as passes
-use Rattle.hv_pass.specs.Refused.{IsRefused}
-use Rattle.hv_pass.proofs.Firsts.{same_first}
+use Rattle.hv_flow_plan.specs.declared.plan.FlowOp.{FlowOp}
+use Rattle.hv_flow_plan.specs.declared.body.Planned.{Planned}
+use Rattle.hv_flow_plan.specs.Planned.{planned_by, planned, all_planned}
+use Rattle.hv_flow_plan.specs.Spelling.{plan_of_body}
+use Rattle.hv_flow_pass.specs.declared.act.Act.{Act}
+use Rattle.hv_flow_pass.specs.declared.plan.PassOp.{PassOp}
+use Rattle.hv_flow_pass.specs.Plans as passes
+use Rattle.hv_flow_pass.specs.Refused.{IsRefused}
+use Rattle.hv_flow_pass.proofs.Firsts.{same_first}
 use Rattle.hv_excl.specs.Violations.{IsViolatedBy, IsPlanned, ArePlanned, IsViolatedAmong}
 use Rattle.hv_excl.specs.Judged.{judged}
 use Rattle.hv_excl.proofs.Clashing.{among, among_first, among_others, among_none}

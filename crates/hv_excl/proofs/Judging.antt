@@ -7,17 +7,17 @@ use Rattle.hv_rules.specs.Flow.{Skip, Do, Stop, Then, Either, Loop}
 use Rattle.hv_decls.specs.Locals.{CoreBody}
 use Rattle.hv_rules.specs.Events.{Belongs, Mark, Events, body_events}
 use Rattle.hv_rules.specs.States.{Access, binding_of}
-use Rattle.hv_traces.specs.Mapped.{mapped}
-use Rattle.hv_traces.specs.Carried.{behind, Steady, carrying}
-use Rattle.hv_traces.specs.Opened.{opens}
-use Rattle.hv_traces.specs.Opened as marks
-use Rattle.hv_traces.proofs.Levels.{body_steady}
-use Rattle.hv_plan.specs.declared.plan.FlowOp.{FlowOp}
-use Rattle.hv_plan.specs.Spelling.{plan_of, entered, plan_of_body}
-use Rattle.hv_pass.specs.declared.act.Act.{Act}
-use Rattle.hv_pass.specs.declared.plan.PassOp.{PassOp}
-use Rattle.hv_pass.specs.declared.plan.PassOp.TheVariants as pass
-use Rattle.hv_pass.specs.Plans as passes
+use Rattle.hv_flow_traces.specs.Mapped.{mapped}
+use Rattle.hv_flow_traces.specs.Carried.{behind, Steady, carrying}
+use Rattle.hv_flow_traces.specs.Opened.{opens}
+use Rattle.hv_flow_traces.specs.Opened as marks
+use Rattle.hv_flow_traces.proofs.Levels.{body_steady}
+use Rattle.hv_flow_plan.specs.declared.plan.FlowOp.{FlowOp}
+use Rattle.hv_flow_plan.specs.Spelling.{plan_of, entered, plan_of_body}
+use Rattle.hv_flow_pass.specs.declared.act.Act.{Act}
+use Rattle.hv_flow_pass.specs.declared.plan.PassOp.{PassOp}
+use Rattle.hv_flow_pass.specs.declared.plan.PassOp.TheVariants as pass
+use Rattle.hv_flow_pass.specs.Plans as passes
 use Rattle.hv_excl.specs.Clashes.{open_behind, refused_at}
 use Rattle.hv_excl.specs.Told.{declared_by, declared_next, told_by}
 use Rattle.hv_excl.specs.Judged.{acts_of, judged}

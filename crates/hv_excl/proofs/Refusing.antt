@@ -12,14 +12,14 @@ use Rattle.hv_rules.specs.Events.{Mark}
 use Rattle.hv_rules.specs.States.{Access, binding_of, Open, state_after}
 use Rattle.hv_rules.specs.Rules.{Violates}
 use Rattle.hv_rules.specs.Accepted.{AccessPhase, phase_of}
-use Rattle.hv_traces.specs.Mapped.{mapped}
-use Rattle.hv_traces.specs.Carried.{without}
-use Rattle.hv_traces.specs.Opened.{opened_at}
-use Rattle.hv_traces.proofs.MappedLemmas.{map-append, traces}
-use Rattle.hv_traces.proofs.OpenedLemmas.{is_opened_at}
-use Rattle.hv_pass.specs.declared.act.Act.{Act}
-use Rattle.hv_pass.specs.declared.act.Act.TheVariants as act
-use Rattle.hv_pass.specs.Refused.{Values, start, after_acts, acts_in, Refuses, IsRefused}
+use Rattle.hv_flow_traces.specs.Mapped.{mapped}
+use Rattle.hv_flow_traces.specs.Carried.{without}
+use Rattle.hv_flow_traces.specs.Opened.{opened_at}
+use Rattle.hv_flow_traces.proofs.MappedLemmas.{map-append, traces}
+use Rattle.hv_flow_traces.proofs.OpenedLemmas.{is_opened_at}
+use Rattle.hv_flow_pass.specs.declared.act.Act.{Act}
+use Rattle.hv_flow_pass.specs.declared.act.Act.TheVariants as act
+use Rattle.hv_flow_pass.specs.Refused.{Values, start, after_acts, acts_in, Refuses, IsRefused}
 use Rattle.hv_excl.specs.Violations.{IsViolatedBy}
 use Rattle.hv_excl.specs.Clashes.{refused_at}
 use Rattle.hv_excl.specs.Judged.{acts_of}

@@ -14,8 +14,8 @@ use Rattle.hv_rules.specs.Events as events
 use Rattle.hv_decls.specs.Statics as statics
 use Rattle.hv_tree.specs.Core as core
 use Rattle.hv_rules.specs.States.{binding_of}
-use Rattle.hv_plan.specs.declared.plan.FlowOp.{FlowOp}
-use Rattle.hv_plan.specs.Spelling.{plan_of, entered}
+use Rattle.hv_flow_plan.specs.declared.plan.FlowOp.{FlowOp}
+use Rattle.hv_flow_plan.specs.Spelling.{plan_of, entered}
 use Rattle.hv_excl.specs.Told.{declared_by, declared_next, told_by}
 
 -- ---- flows

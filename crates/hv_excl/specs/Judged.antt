@@ -2,12 +2,12 @@
 use Rattle.std.specs.Prelude.{ℕ, false, List, [], ◌∷◌, Option, Some, None}
 use Rattle.hv_tree.specs.declared.refusal.Refusal.{Refusal}
 use Rattle.hv_rules.specs.States.{Access}
-use Rattle.hv_plan.specs.declared.plan.FlowOp.{FlowOp}
-use Rattle.hv_plan.specs.declared.plan.FlowOp.TheVariants as op
-use Rattle.hv_pass.specs.declared.act.Act.{Act}
-use Rattle.hv_pass.specs.declared.act.Act.TheVariants as act
-use Rattle.hv_pass.specs.declared.plan.PassOp.{PassOp}
-use Rattle.hv_pass.specs.declared.plan.PassOp.TheVariants as pass
+use Rattle.hv_flow_plan.specs.declared.plan.FlowOp.{FlowOp}
+use Rattle.hv_flow_plan.specs.declared.plan.FlowOp.TheVariants as op
+use Rattle.hv_flow_pass.specs.declared.act.Act.{Act}
+use Rattle.hv_flow_pass.specs.declared.act.Act.TheVariants as act
+use Rattle.hv_flow_pass.specs.declared.plan.PassOp.{PassOp}
+use Rattle.hv_flow_pass.specs.declared.plan.PassOp.TheVariants as pass
 use Rattle.hv_excl.specs.Clashes.{open_behind, refused_at}
 use Rattle.hv_excl.specs.Told.{declares, declared_next, told_by}
 

@@ -2,8 +2,8 @@
 use Rattle.std.specs.Prelude.{ℕ, List, [], ◌∷◌, Option, Some, None}
 use Rattle.hv_rules.specs.declared.event.FlowEvent.{FlowEvent}
 use Rattle.hv_rules.specs.declared.event.FlowEvent.TheVariants as event
-use Rattle.hv_plan.specs.declared.plan.FlowOp.{FlowOp}
-use Rattle.hv_plan.specs.declared.plan.FlowOp.TheVariants as op
+use Rattle.hv_flow_plan.specs.declared.plan.FlowOp.{FlowOp}
+use Rattle.hv_flow_plan.specs.declared.plan.FlowOp.TheVariants as op
 
 -- the local that an event declares
 abbrev pub declared_by : FlowEvent → Option ℕ

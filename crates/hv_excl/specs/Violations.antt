@@ -5,9 +5,9 @@ use Rattle.hv_tree.specs.Core.{Core}
 use Rattle.hv_decls.specs.Locals.{CoreBody}
 use Rattle.hv_rules.specs.Rules.{IsViolatedIn}
 use Rattle.hv_rules.specs.Accepted.{AccessPhase, phase_of}
-use Rattle.hv_plan.specs.declared.body.Planned.{Planned}
-use Rattle.hv_plan.specs.Planned.{planned_by}
-use Rattle.hv_plan.specs.Spelling.{plan_of_body}
+use Rattle.hv_flow_plan.specs.declared.body.Planned.{Planned}
+use Rattle.hv_flow_plan.specs.Planned.{planned_by}
+use Rattle.hv_flow_plan.specs.Spelling.{plan_of_body}
 
 -- some trace of the body violates the rule there, which is one on accesses
 abbrev pub IsViolatedBy : Core → CoreBody → Refusal → Type 0

@@ -3,12 +3,12 @@ ghost use Rattle.hv_tree.specs.Core.{Core, core_tree};
 ghost use Rattle.std.specs.Prelude.{IfOk};
 ghost use Rattle.hv_tree.specs.Earlier.{IsFirst};
 ghost use Rattle.hv_rules.specs.Accepted.{AccessPhase, IsViolatedInPhase};
-ghost use Rattle.hv_plan.specs.Planned.{planned_by};
+ghost use Rattle.hv_flow_plan.specs.Planned.{planned_by};
 ghost use Rattle.hv_excl.specs.Violations as spec;
 
 use crate::judge::judge;
-use hv_pass::first_refusal;
-use hv_plan::{Planned, plans};
+use hv_flow_pass::first_refusal;
+use hv_flow_plan::{Planned, plans};
 use hv_tree::{Refusal, Tree, earlier};
 use std::alloc::{AllocError as NoMemory, Global};
 

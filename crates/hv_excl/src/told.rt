@@ -3,7 +3,7 @@ ghost use Rattle.std.specs.Prelude.{◌≡◌};
 ghost use Rattle.hv_excl.specs.Told as spec;
 ghost use Rattle.hv_excl.specs.Judged.{told_op};
 
-use hv_plan::FlowOp;
+use hv_flow_plan::FlowOp;
 use hv_rules::FlowEvent;
 
 /// The local that a word declares.

@@ -7,8 +7,8 @@ use Rattle.hv_flow.specs.Positions.{places, is_empty, At, First, Last, Final, Ne
 use Rattle.hv_flow.specs.Graphs.{node_of, extend_at, linked, built, next_of, Among, ActAt}
 use Rattle.hv_tree.specs.declared.place.Place.{Place}
 use Rattle.hv_rules.specs.Events.{Mark, Events}
-use Rattle.hv_plan.specs.declared.plan.FlowOp.{FlowOp}
-use Rattle.hv_plan.specs.Spelling.{entered, plan_of}
+use Rattle.hv_flow_plan.specs.declared.plan.FlowOp.{FlowOp}
+use Rattle.hv_flow_plan.specs.Spelling.{entered, plan_of}
 use Rattle.hv_flow.specs.Reading.{read_all}
 use Rattle.hv_flow.specs.Walks.{Walk, IsFullWalk, EndsAlone, entry, Traces, IsGraph}
 use Rattle.hv_flow.specs.Walks as walks

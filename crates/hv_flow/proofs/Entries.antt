@@ -4,8 +4,8 @@ use Rattle.hv_tree.specs.declared.place.Place.{Place}
 use Rattle.hv_rules.specs.declared.event.FlowEvent.TheVariants as event
 use Rattle.hv_rules.specs.Flow.{Skip, Do, Stop, Then, Either, Loop}
 use Rattle.hv_rules.specs.Events.{Events}
-use Rattle.hv_plan.specs.declared.plan.FlowOp.{FlowOp}
-use Rattle.hv_plan.specs.Spelling.{entered, plan_of}
+use Rattle.hv_flow_plan.specs.declared.plan.FlowOp.{FlowOp}
+use Rattle.hv_flow_plan.specs.Spelling.{entered, plan_of}
 use Rattle.hv_flow.specs.declared.nodes.Node.{Node}
 use Rattle.hv_flow.specs.Acts.{Act, acts_of}
 use Rattle.hv_flow.specs.Graphs.{built}

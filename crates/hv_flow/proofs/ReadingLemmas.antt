@@ -6,9 +6,9 @@ use Rattle.hv_rules.specs.Events.{Events}
 use Rattle.hv_flow.specs.declared.nodes.Node.{Node}
 use Rattle.hv_flow.specs.declared.waiting.Frame.{Frame}
 use Rattle.hv_flow.specs.declared.waiting.Frame.TheVariants as frame
-use Rattle.hv_plan.specs.declared.plan.FlowOp.{FlowOp}
+use Rattle.hv_flow_plan.specs.declared.plan.FlowOp.{FlowOp}
 use Rattle.hv_flow.specs.Acts.{acts_of}
-use Rattle.hv_plan.specs.Spelling.{plan_of}
+use Rattle.hv_flow_plan.specs.Spelling.{plan_of}
 use Rattle.hv_flow.specs.Graphs.{built}
 use Rattle.hv_flow.specs.Reading.{given, read_all}
 

@@ -4,8 +4,8 @@ use Rattle.hv_tree.specs.declared.place.Place.{Place}
 use Rattle.hv_tree.specs.Core.{Core, end_of}
 use Rattle.hv_decls.specs.Locals.{CoreBody}
 use Rattle.hv_rules.specs.Events.{Events, body_events}
-use Rattle.hv_plan.specs.declared.plan.FlowOp.{FlowOp}
-use Rattle.hv_plan.specs.Spelling.{entered, plan_of, plan_of_body}
+use Rattle.hv_flow_plan.specs.declared.plan.FlowOp.{FlowOp}
+use Rattle.hv_flow_plan.specs.Spelling.{entered, plan_of, plan_of_body}
 use Rattle.hv_flow.specs.declared.nodes.FlowGraph.{FlowGraph}
 use Rattle.hv_flow.specs.Walks.{EndsAlone, EntersNowhere, EntersOnce, IsGraph, IsGraphOf}
 use Rattle.hv_flow.proofs.Quiet.{body_enters_nowhere}

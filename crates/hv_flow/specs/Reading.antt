@@ -4,8 +4,8 @@ use Rattle.hv_flow.specs.declared.nodes.Node.{Node}
 use Rattle.hv_flow.specs.declared.waiting.Part.{Part}
 use Rattle.hv_flow.specs.declared.waiting.Frame.{Frame}
 use Rattle.hv_flow.specs.declared.waiting.Frame.TheVariants as frame
-use Rattle.hv_plan.specs.declared.plan.FlowOp.{FlowOp}
-use Rattle.hv_plan.specs.declared.plan.FlowOp.TheVariants as op
+use Rattle.hv_flow_plan.specs.declared.plan.FlowOp.{FlowOp}
+use Rattle.hv_flow_plan.specs.declared.plan.FlowOp.TheVariants as op
 use Rattle.hv_flow.specs.Graphs.{new_node, linked, nothing, then_part, either_part, loop_part, alone}
 
 -- what waits for a part, the innermost first, and the nodes so far

@@ -2,7 +2,7 @@
 ghost use Rattle.std.specs.Prelude.{◌≡◌, ◌++◌, ◌∷◌, [], if◌then◌else◌, IfOk, OnOk, length};
 ghost use Rattle.hv_tree.specs.declared.place.Place.{Place};
 ghost use Rattle.hv_rules.specs.Events.{Events};
-ghost use Rattle.hv_plan.specs.Spelling.{entered, plan_of};
+ghost use Rattle.hv_flow_plan.specs.Spelling.{entered, plan_of};
 ghost use Rattle.hv_flow.specs.Walks.{EndsAlone, EntersNowhere, EntersOnce, IsGraph};
 ghost use Rattle.hv_flow.specs.Graphs.{extend_at, linked, new_node, nothing, then_part, either_part, loop_part};
 ghost use Rattle.hv_flow.specs.Reading.{given, read, read_all};
@@ -10,7 +10,7 @@ ghost use Rattle.hv_flow.specs.Reading.{given, read, read_all};
 use crate::nodes::{FlowGraph, Node};
 use crate::waiting::{Frame, Part, Waiting};
 use hv_items::Items;
-use hv_plan::FlowOp;
+use hv_flow_plan::FlowOp;
 use hv_rules::FlowEvent;
 use hv_tree::Place;
 use std::alloc::{AllocError as NoMemory, Global};

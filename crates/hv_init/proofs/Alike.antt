@@ -8,18 +8,18 @@ use Rattle.hv_rules.specs.Events.{Belongs}
 use Rattle.hv_rules.specs.States.{Access}
 use Rattle.hv_rules.specs.Rules.{asks_whole, back_at, missing_at}
 use Rattle.hv_lemmas.proofs.Members.{listed, contained}
-use Rattle.hv_pass.specs.declared.act.Act.{Act}
-use Rattle.hv_pass.specs.Refused.{Values, start, after_acts, acts_in, IsRefused}
-use Rattle.hv_ends.specs.declared.span.Span.{Span}
-use Rattle.hv_ends.specs.declared.span.End.{End}
-use Rattle.hv_ends.specs.Ends.{numbers_in, belongs_by, Agree}
-use Rattle.hv_layout.specs.Spans.{FollowOneAnother}
-use Rattle.hv_traces.specs.Mapped.{mapped}
-use Rattle.hv_init_law.specs.Layout.{Layout}
-use Rattle.hv_init_law.specs.Acts.{whole_asked, back_asked, missing_asked, sets}
-use Rattle.hv_init_law.proofs.Playing.{acts_both, AnyRefuses, any_of, any_left, any_right, values, refused_at, refused_of}
-use Rattle.hv_init_law.proofs.Telling.{back_keeps}
-use Rattle.hv_init_law.proofs.Refusing.{back_refuses, back_refused}
+use Rattle.hv_flow_pass.specs.declared.act.Act.{Act}
+use Rattle.hv_flow_pass.specs.Refused.{Values, start, after_acts, acts_in, IsRefused}
+use Rattle.hv_flow_ends.specs.declared.span.Span.{Span}
+use Rattle.hv_flow_ends.specs.declared.span.End.{End}
+use Rattle.hv_flow_ends.specs.Ends.{numbers_in, belongs_by, Agree}
+use Rattle.hv_init_layout.specs.Spans.{FollowOneAnother}
+use Rattle.hv_flow_traces.specs.Mapped.{mapped}
+use Rattle.hv_init_cells.specs.Layout.{Layout}
+use Rattle.hv_init_cells.specs.Acts.{whole_asked, back_asked, missing_asked, sets}
+use Rattle.hv_init_cells.proofs.Playing.{acts_both, AnyRefuses, any_of, any_left, any_right, values, refused_at, refused_of}
+use Rattle.hv_init_cells.proofs.Telling.{back_keeps}
+use Rattle.hv_init_cells.proofs.Refusing.{back_refuses, back_refused}
 use Rattle.hv_init.specs.Words.{span_asked, end_asked, acts_with}
 use Rattle.hv_init.proofs.Spans.{spans_refuse, spans_refused, spans_keep}
 

@@ -7,9 +7,9 @@ use Rattle.hv_tree.specs.Earlier.{IsEarlier, IsFirst}
 use Rattle.hv_decls.specs.Locals.{CoreBody}
 use Rattle.hv_scope.specs.declared.bodies.Body.{Body}
 use Rattle.hv_scope.specs.Bodies.{body_by}
-use Rattle.hv_pass.proofs.Firsts.{same_first}
+use Rattle.hv_flow_pass.proofs.Firsts.{same_first}
 use Rattle.hv_excl.proofs.Firsts.{first_of}
-use Rattle.hv_init_law.specs.Law.{IsViolatedBy, IsViolatedAmong}
+use Rattle.hv_init_cells.specs.Law.{IsViolatedBy, IsViolatedAmong}
 
 module _ (tree : Core) where
   pub none_among : IsFirst (IsViolatedAmong tree []) None

@@ -5,15 +5,15 @@ use Rattle.hv_tree.specs.declared.place.Place.{Place}
 use Rattle.hv_tree.specs.declared.refusal.Refusal.{Refusal}
 use Rattle.hv_tree.specs.declared.refusal.Rule.TheVariants as rule
 use Rattle.hv_lemmas.proofs.Members.{Among, in_left, in_right, either_in}
-use Rattle.hv_pass.specs.Refused.{Values, covers, after_acts}
-use Rattle.hv_ends.specs.declared.span.Span.{Span}
-use Rattle.hv_ends.specs.Ends.{numbers_from, numbers_in}
-use Rattle.hv_layout.specs.Spans.{begin, span_of, FollowOneAnother}
-use Rattle.hv_init_law.specs.Layout.{Layout}
-use Rattle.hv_init_law.specs.Acts.{refusal}
-use Rattle.hv_init_law.proofs.Shapes.{covers_of, covers_to}
-use Rattle.hv_init_law.proofs.Playing.{AnyRefuses}
-use Rattle.hv_init_law.proofs.Refusing.{BackRefused}
+use Rattle.hv_flow_pass.specs.Refused.{Values, covers, after_acts}
+use Rattle.hv_flow_ends.specs.declared.span.Span.{Span}
+use Rattle.hv_flow_ends.specs.Ends.{numbers_from, numbers_in}
+use Rattle.hv_init_layout.specs.Spans.{begin, span_of, FollowOneAnother}
+use Rattle.hv_init_cells.specs.Layout.{Layout}
+use Rattle.hv_init_cells.specs.Acts.{refusal}
+use Rattle.hv_init_cells.proofs.Shapes.{covers_of, covers_to}
+use Rattle.hv_init_cells.proofs.Playing.{AnyRefuses}
+use Rattle.hv_init_cells.proofs.Refusing.{BackRefused}
 use Rattle.hv_init.specs.Words.{span_asked}
 
 module _ (l : Layout) (follow : FollowOneAnother l) where

@@ -8,33 +8,33 @@ use Rattle.hv_rules.specs.Flow.{Flow, Skip, Do, Stop, Then, Either, Loop}
 use Rattle.hv_decls.specs.Locals.{CoreBody}
 use Rattle.hv_rules.specs.Events.{Mark, Events, body_events}
 use Rattle.hv_rules.specs.States.{Access, binding_of}
-use Rattle.hv_pass.specs.declared.act.Act.{Act}
-use Rattle.hv_pass.specs.declared.plan.PassOp.{PassOp}
-use Rattle.hv_pass.specs.declared.plan.PassOp.TheVariants as pass
-use Rattle.hv_pass.specs.Plans as plans
-use Rattle.hv_pass.specs.Refused.{IsRefused}
-use Rattle.hv_pass.proofs.Firsts.{same_first}
-use Rattle.hv_plan.specs.declared.plan.FlowOp.{FlowOp}
-use Rattle.hv_plan.specs.Spelling.{plan_of, plan_of_body}
-use Rattle.hv_traces.specs.Mapped.{mapped}
-use Rattle.hv_traces.specs.Carried.{behind, Steady, carrying}
-use Rattle.hv_traces.specs.Opened.{opens}
-use Rattle.hv_traces.proofs.Levels.{body_steady}
-use Rattle.hv_ends.specs.declared.span.End.{End}
-use Rattle.hv_ends.specs.Ends.{is_end, if_end, ends_in, belongs_by, AllAgree}
-use Rattle.hv_ends.specs.Words.{ends_after}
-use Rattle.hv_ends.proofs.Quiet.{IsTidy, Each}
-use Rattle.hv_ends.proofs.Agreeing.{body_fits}
-use Rattle.hv_ends.proofs.Handed.{Handed, other, ended, mark_of, parted, no_end, one_end}
+use Rattle.hv_flow_pass.specs.declared.act.Act.{Act}
+use Rattle.hv_flow_pass.specs.declared.plan.PassOp.{PassOp}
+use Rattle.hv_flow_pass.specs.declared.plan.PassOp.TheVariants as pass
+use Rattle.hv_flow_pass.specs.Plans as plans
+use Rattle.hv_flow_pass.specs.Refused.{IsRefused}
+use Rattle.hv_flow_pass.proofs.Firsts.{same_first}
+use Rattle.hv_flow_plan.specs.declared.plan.FlowOp.{FlowOp}
+use Rattle.hv_flow_plan.specs.Spelling.{plan_of, plan_of_body}
+use Rattle.hv_flow_traces.specs.Mapped.{mapped}
+use Rattle.hv_flow_traces.specs.Carried.{behind, Steady, carrying}
+use Rattle.hv_flow_traces.specs.Opened.{opens}
+use Rattle.hv_flow_traces.proofs.Levels.{body_steady}
+use Rattle.hv_flow_ends.specs.declared.span.End.{End}
+use Rattle.hv_flow_ends.specs.Ends.{is_end, if_end, ends_in, belongs_by, AllAgree}
+use Rattle.hv_flow_ends.specs.Words.{ends_after}
+use Rattle.hv_flow_ends.proofs.Quiet.{IsTidy, Each}
+use Rattle.hv_flow_ends.proofs.Agreeing.{body_fits}
+use Rattle.hv_flow_ends.proofs.Handed.{Handed, other, ended, mark_of, parted, no_end, one_end}
 use Rattle.hv_excl.specs.Clashes.{open_behind}
 use Rattle.hv_excl.specs.Told.{declared_by, declared_next, told_by}
 use Rattle.hv_excl.proofs.Telling.{next_in, last_in, Tells, next_is, body_tells}
 use Rattle.hv_excl.proofs.Judging.{open_same}
-use Rattle.hv_init_law.specs.Layout.{Layout, Fits}
-use Rattle.hv_init_law.specs.Acts.{acts_at, acts_of}
-use Rattle.hv_init_law.specs.Law.{IsViolatedBy}
-use Rattle.hv_init_law.proofs.Refusing.{first_violation}
-use Rattle.hv_layout.specs.Spans.{FollowOneAnother}
+use Rattle.hv_init_cells.specs.Layout.{Layout, Fits}
+use Rattle.hv_init_cells.specs.Acts.{acts_at, acts_of}
+use Rattle.hv_init_cells.specs.Law.{IsViolatedBy}
+use Rattle.hv_init_cells.proofs.Refusing.{first_violation}
+use Rattle.hv_init_layout.specs.Spans.{FollowOneAnother}
 use Rattle.hv_init.specs.Words.{end_asked, next_asked, ended_asked, acts_with, event_acts, init_words}
 use Rattle.hv_init.proofs.Alike.{AsMuch, as_much_by, belongs_asked, nothing_asked, end_to, end_of, event_much, mapped_twice, flow_refuses}
 

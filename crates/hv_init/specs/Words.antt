@@ -5,21 +5,21 @@ use Rattle.hv_tree.specs.declared.refusal.Rule.TheVariants as rule
 use Rattle.hv_rules.specs.declared.event.FlowEvent.{FlowEvent}
 use Rattle.hv_rules.specs.States.{Access}
 use Rattle.hv_rules.specs.Rules.{asks_whole}
-use Rattle.hv_plan.specs.declared.plan.FlowOp.{FlowOp}
-use Rattle.hv_plan.specs.declared.plan.FlowOp.TheVariants as op
-use Rattle.hv_pass.specs.declared.act.Act.{Act}
-use Rattle.hv_pass.specs.declared.act.Act.TheVariants as act
-use Rattle.hv_pass.specs.declared.plan.PassOp.{PassOp}
-use Rattle.hv_pass.specs.declared.plan.PassOp.TheVariants as pass
-use Rattle.hv_ends.specs.declared.span.Span.{Span}
-use Rattle.hv_ends.specs.declared.span.End.{End}
-use Rattle.hv_ends.specs.Ends.{is_end}
-use Rattle.hv_ends.specs.Words.{ends_behind}
+use Rattle.hv_flow_plan.specs.declared.plan.FlowOp.{FlowOp}
+use Rattle.hv_flow_plan.specs.declared.plan.FlowOp.TheVariants as op
+use Rattle.hv_flow_pass.specs.declared.act.Act.{Act}
+use Rattle.hv_flow_pass.specs.declared.act.Act.TheVariants as act
+use Rattle.hv_flow_pass.specs.declared.plan.PassOp.{PassOp}
+use Rattle.hv_flow_pass.specs.declared.plan.PassOp.TheVariants as pass
+use Rattle.hv_flow_ends.specs.declared.span.Span.{Span}
+use Rattle.hv_flow_ends.specs.declared.span.End.{End}
+use Rattle.hv_flow_ends.specs.Ends.{is_end}
+use Rattle.hv_flow_ends.specs.Words.{ends_behind}
 use Rattle.hv_excl.specs.Told.{declares}
 use Rattle.hv_excl.specs.Judged.{open_op, told_op}
-use Rattle.hv_init_law.specs.Layout.{Layout}
-use Rattle.hv_init_law.specs.Acts.{refusal, whole_asked, missing_asked, sets}
-use Rattle.hv_layout.specs.Spans.{span_of}
+use Rattle.hv_init_cells.specs.Layout.{Layout}
+use Rattle.hv_init_cells.specs.Acts.{refusal, whole_asked, missing_asked, sets}
+use Rattle.hv_init_layout.specs.Spans.{span_of}
 
 -- ---- what is asked
 

@@ -2,15 +2,15 @@
 ghost use Rattle.std.specs.Prelude.{◌≡◌, ◌++◌, ◌∷◌, [], false, if◌then◌else◌, Some, None, map, OnOk};
 ghost use Rattle.hv_rules.specs.Rules as rules;
 ghost use Rattle.hv_decls.specs.Paths as paths;
-ghost use Rattle.hv_layout.specs.Laid.{laid};
-ghost use Rattle.hv_pass.specs.declared.act.Act.TheVariants as act;
-ghost use Rattle.hv_init_law.specs.Acts as spec;
+ghost use Rattle.hv_init_layout.specs.Laid.{laid};
+ghost use Rattle.hv_flow_pass.specs.declared.act.Act.TheVariants as act;
+ghost use Rattle.hv_init_cells.specs.Acts as spec;
 ghost use Rattle.hv_init.specs.Words as ended;
 
-use hv_ends::{End, Span, is_end};
+use hv_flow_ends::{End, Span, is_end};
 use hv_items::Items;
-use hv_layout::Layout;
-use hv_pass::{Act, Range};
+use hv_init_layout::Layout;
+use hv_flow_pass::{Act, Range};
 use hv_decls::{StaticPath, has_index};
 use hv_rules::FlowEvent;
 use hv_tree::{Place, Refusal, Rule};

@@ -2,14 +2,14 @@
 ghost use Rattle.std.specs.Prelude.{◌≡◌, ◌++◌, ◌∷◌, [], false, OnOk};
 ghost use Rattle.hv_rules.specs.States as states;
 ghost use Rattle.hv_excl.specs.Access.{mode_by};
-ghost use Rattle.hv_layout.specs.Laid.{laid};
-ghost use Rattle.hv_pass.specs.declared.act.Act.TheVariants as act;
-ghost use Rattle.hv_init_law.specs.Acts as spec;
+ghost use Rattle.hv_init_layout.specs.Laid.{laid};
+ghost use Rattle.hv_flow_pass.specs.declared.act.Act.TheVariants as act;
+ghost use Rattle.hv_init_cells.specs.Acts as spec;
 
 use hv_excl::{AccessMode, OpenAccess, Opened};
 use hv_items::Items;
-use hv_layout::Layout;
-use hv_pass::Act;
+use hv_init_layout::Layout;
+use hv_flow_pass::Act;
 use hv_decls::{StaticPath, has_index};
 use hv_rules::FlowEvent;
 use std::alloc::AllocError as NoMemory;

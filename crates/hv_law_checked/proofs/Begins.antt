@@ -15,9 +15,9 @@ use Rattle.hv_token.specs.Pieces.{kind_of, width}
 use Rattle.hv_token.specs.Lexes.{AreLongest, order_mark, body, tokens_at, tokens_from, begins_before, most_bytes, Violates, too_long, ill_formed, no_piece, too_great, Lexes}
 use Rattle.hv_token.proofs.Cuts.{width_append, width_concat, wide, wide_some}
 use Rattle.hv_token.proofs.Lexing.{marked_whole}
-use Rattle.hv_places.specs.TokenPlaces.{Before, Rise}
+use Rattle.hv_law_places.specs.TokenPlaces.{Before, Rise}
 use Rattle.hv_lemmas.proofs.Each.{Each}
-use Rattle.hv_places.proofs.Counted.{Rises, rises}
+use Rattle.hv_law_places.proofs.Counted.{Rises, rises}
 use Rattle.hv_law_checked.specs.Inside.{LiesIn, BeginApart}
 
 -- the token begins between these bytes

@@ -12,17 +12,17 @@ use Rattle.hv_type_rules.specs.Names.{IsViolatedByNames}
 use Rattle.hv_type_rules.specs.TypeRules.{IsViolatedByTypes}
 use Rattle.hv_rules.specs.Rules.{IsViolatedByEvents}
 use Rattle.hv_token.specs.Lexes.{Lexes}
-use Rattle.hv_copying.specs.Node.{Node}
-use Rattle.hv_copying.specs.Meaning.{node_of}
-use Rattle.hv_places.specs.Places.{IsIn}
+use Rattle.hv_sem_copying.specs.Node.{Node}
+use Rattle.hv_sem_copying.specs.Meaning.{node_of}
+use Rattle.hv_law_places.specs.Places.{IsIn}
 use Rattle.hv_law_run_places.specs.NodePlaces.{in_node}
-use Rattle.hv_places.specs.TokenPlaces.{IsAmong}
-use Rattle.hv_places.specs.Ends.{EndApart}
+use Rattle.hv_law_places.specs.TokenPlaces.{IsAmong}
+use Rattle.hv_law_places.specs.Ends.{EndApart}
 use Rattle.hv_law_run_places.proofs.NodesTell.{nodes_tell}
-use Rattle.hv_places.proofs.NamesTell.{names_tell_or_begin, types_tell}
-use Rattle.hv_places.proofs.EventsTell.{events_tell}
-use Rattle.hv_places.proofs.TreesSay.{places_said}
-use Rattle.hv_places.proofs.EndsFit.{bodies_apart}
+use Rattle.hv_law_places.proofs.NamesTell.{names_tell_or_begin, types_tell}
+use Rattle.hv_law_places.proofs.EventsTell.{events_tell}
+use Rattle.hv_law_places.proofs.TreesSay.{places_said}
+use Rattle.hv_law_places.proofs.EndsFit.{bodies_apart}
 use Rattle.hv_law_checked.specs.Inside.{LiesIn}
 use Rattle.hv_law_checked.proofs.Begins.{tokens_rise, tokens_begin}
 

@@ -15,16 +15,16 @@ use Rattle.hv_tree.specs.Tokens.{Tokens, mark, keyword, word}
 use Rattle.hv_tree.specs.Types.{no_params, no_return}
 use Rattle.hv_tree.specs.Grammar.{is_block, none_stmts, IsDecl, fun_decl, no_decls, more_decls, Spells}
 use Rattle.hv_tree.specs.Core.{Core, CoreDecl, StructOf, FunOf, CoreFun, IntTy, NamedTy, ArrayTy, Number, Path, Chain, NoLinks, LinkOf, NoSteps, FieldStep, IndexStep, CallOf, ValueArg, RefArg, NoArgs, BlockOf, CoreStmts, NoStmts, StmtOf, Print, CallsAlone, core_tree}
-use Rattle.hv_copying.specs.declared.end.TrapKind.TheVariants.{DivZero}
-use Rattle.hv_copying.specs.Node.{Trapped, SpentAt, Node, NodeOf, NoNodes, NodeAnd}
-use Rattle.hv_copying.specs.Run.{and_then, mine, become, pure, trap, pay, say, counted_from}
-use Rattle.hv_copying.specs.Meaning.{node_of}
-use Rattle.hv_places.specs.Places.{in_decl, in_stmt, places_of, IsIn}
+use Rattle.hv_sem_copying.specs.declared.end.TrapKind.TheVariants.{DivZero}
+use Rattle.hv_sem_copying.specs.Node.{Trapped, SpentAt, Node, NodeOf, NoNodes, NodeAnd}
+use Rattle.hv_sem_copying.specs.Run.{and_then, mine, become, pure, trap, pay, say, counted_from}
+use Rattle.hv_sem_copying.specs.Meaning.{node_of}
+use Rattle.hv_law_places.specs.Places.{in_decl, in_stmt, places_of, IsIn}
 use Rattle.hv_law_run_places.specs.NodePlaces.{in_node}
-use Rattle.hv_places.specs.TokenPlaces.{Before, Rise}
-use Rattle.hv_places.specs.Ends.{EndApart}
+use Rattle.hv_law_places.specs.TokenPlaces.{Before, Rise}
+use Rattle.hv_law_places.specs.Ends.{EndApart}
 use Rattle.hv_law_run_places.proofs.NodesTell.{nodes_tell}
-use Rattle.hv_places.proofs.EndsFit.{bodies_apart}
+use Rattle.hv_law_places.proofs.EndsFit.{bodies_apart}
 
 abbrev at : ℕ → Place
 at n = record { start = n }

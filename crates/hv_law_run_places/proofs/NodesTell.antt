@@ -7,14 +7,14 @@ use Rattle.hv_value.specs.declared.value.PathStep.{PathStep}
 use Rattle.hv_value.specs.declared.value.PathStep.TheVariants.{Field, At}
 use Rattle.hv_value.specs.Places.{nth}
 use Rattle.hv_value.specs.Walk.{Link, ToField, ToIndex, Reached, Reaches, Outside, Lost, after_step, onward, step_on, walk}
-use Rattle.hv_copying.specs.declared.end.TrapKind.TheVariants as trap_kind
-use Rattle.hv_copying.specs.declared.end.Cause.TheVariants.{Holes, Tasks}
-use Rattle.hv_copying.specs.Node.{End, Node, nodes}
-use Rattle.hv_copying.specs.Run.{Res, Is, Halted, Trap, Spent, Stuck, Now, Run, Flow}
-use Rattle.hv_copying.specs.Ops.{Target, Spot, Mode, Reads, Writes, Sets, Passed}
-use Rattle.hv_copying.specs.Copying.{Locals, tree_at, with_tree, arrived, at_spot, written, opened, without, write_back, closed, entering, returned, copying}
-use Rattle.hv_copying.specs.Meaning.{start, run_of, below_root, main_in, node_by, root_by, node_of}
-use Rattle.hv_places.specs.Places.{places_of, IsIn}
+use Rattle.hv_sem_copying.specs.declared.end.TrapKind.TheVariants as trap_kind
+use Rattle.hv_sem_copying.specs.declared.end.Cause.TheVariants.{Holes, Tasks}
+use Rattle.hv_sem_copying.specs.Node.{End, Node, nodes}
+use Rattle.hv_sem_copying.specs.Run.{Res, Is, Halted, Trap, Spent, Stuck, Now, Run, Flow}
+use Rattle.hv_sem_copying.specs.Ops.{Target, Spot, Mode, Reads, Writes, Sets, Passed}
+use Rattle.hv_sem_copying.specs.Copying.{Locals, tree_at, with_tree, arrived, at_spot, written, opened, without, write_back, closed, entering, returned, copying}
+use Rattle.hv_sem_copying.specs.Meaning.{start, run_of, below_root, main_in, node_by, root_by, node_of}
+use Rattle.hv_law_places.specs.Places.{places_of, IsIn}
 use Rattle.hv_law_run_places.specs.NodePlaces.{in_node}
 use Rattle.hv_lemmas.proofs.Each.{Each, each_at, each_contained}
 use Rattle.hv_law_run_places.proofs.Tells.{Tells, Any, Named, LinkTells, Telling, next, pure_tells, stuck_tells, trap_tells, known_tells, mine_tells, become_tells}

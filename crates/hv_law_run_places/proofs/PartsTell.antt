@@ -15,16 +15,16 @@ use Rattle.hv_value.specs.Holes.{is_whole, emptied}
 use Rattle.hv_value.specs.Operators.{Given, Gives, Overflow, DivZero, BadLength, TooLong, filled, length_of}
 use Rattle.hv_value.specs.Walk.{Link}
 use Rattle.hv_value.specs.Sizes.{copy_cost, fill_cost}
-use Rattle.hv_copying.specs.declared.end.TrapKind.TheVariants as trap_kind
-use Rattle.hv_copying.specs.declared.end.Cause.TheVariants.{Kinds, Holes}
-use Rattle.hv_copying.specs.Run.{Run, Flow}
-use Rattle.hv_copying.specs.Ops.{Spot, Mode, Reads, Writes, Sets, Passed, Value, Lent, Ops}
-use Rattle.hv_copying.specs.Operations.{number, truth, given, applied, natural, filled_with}
-use Rattle.hv_copying.specs.Places.{body_number, type_of, whole, local, found, copied, moved, counted, all_of, all_found, declared, captured}
-use Rattle.hv_copying.specs.Calls.{Callee, Constructs, Enters, Placed, Deeper, result_of, ended, value_callee, struct_callee, fun_callee, top_callee, body_of, callee, lent, pass_value, pass_place, own_value, if_deeper, entered, call_by, Child, child_by, budget_of, spawned}
-use Rattle.hv_copying.specs.Blocks.{chosen, turns, repeated, bound}
-use Rattle.hv_copying.specs.Evaluate.{function_value, top_value, named, if_local}
-use Rattle.hv_places.specs.Places.{in_names}
+use Rattle.hv_sem_copying.specs.declared.end.TrapKind.TheVariants as trap_kind
+use Rattle.hv_sem_copying.specs.declared.end.Cause.TheVariants.{Kinds, Holes}
+use Rattle.hv_sem_copying.specs.Run.{Run, Flow}
+use Rattle.hv_sem_copying.specs.Ops.{Spot, Mode, Reads, Writes, Sets, Passed, Value, Lent, Ops}
+use Rattle.hv_sem_copying.specs.Operations.{number, truth, given, applied, natural, filled_with}
+use Rattle.hv_sem_copying.specs.Places.{body_number, type_of, whole, local, found, copied, moved, counted, all_of, all_found, declared, captured}
+use Rattle.hv_sem_copying.specs.Calls.{Callee, Constructs, Enters, Placed, Deeper, result_of, ended, value_callee, struct_callee, fun_callee, top_callee, body_of, callee, lent, pass_value, pass_place, own_value, if_deeper, entered, call_by, Child, child_by, budget_of, spawned}
+use Rattle.hv_sem_copying.specs.Blocks.{chosen, turns, repeated, bound}
+use Rattle.hv_sem_copying.specs.Evaluate.{function_value, top_value, named, if_local}
+use Rattle.hv_law_places.specs.Places.{in_names}
 use Rattle.hv_lemmas.proofs.Each.{Each}
 use Rattle.hv_law_run_places.proofs.Tells.{Tells, Any, LinkTells, Telling, bind, next, pure_tells, stuck_tells, trap_tells, spent_tells, known_tells, if_tells, pay_tells, reference_tells, unless_tells}
 

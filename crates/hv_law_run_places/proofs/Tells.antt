@@ -3,11 +3,11 @@ use Rattle.std.proofs.Common.{ℕ, suc, ◌-◌, nat_le, Bool, true, false, if�
 use Rattle.hv_tree.specs.declared.place.Place.{Place}
 use Rattle.hv_value.specs.ValueTree.{ValueTree}
 use Rattle.hv_value.specs.Walk.{Link, ToField, ToIndex}
-use Rattle.hv_copying.specs.declared.end.TrapKind.{TrapKind}
-use Rattle.hv_copying.specs.declared.end.Cause.{Cause}
-use Rattle.hv_copying.specs.Node.{nodes}
-use Rattle.hv_copying.specs.Run.{Task, Res, Is, Halted, Trap, Spent, Stuck, after, Now, Run, Flow, and_then, ◌>>=◌, pure, halt, stuck, trap, spent, known, pay, say, mine, become, with_reference, counted_from, unless_left}
-use Rattle.hv_copying.specs.Ops.{Target, Spot, Mode, Passed, Ops}
+use Rattle.hv_sem_copying.specs.declared.end.TrapKind.{TrapKind}
+use Rattle.hv_sem_copying.specs.declared.end.Cause.{Cause}
+use Rattle.hv_sem_copying.specs.Node.{nodes}
+use Rattle.hv_sem_copying.specs.Run.{Task, Res, Is, Halted, Trap, Spent, Stuck, after, Now, Run, Flow, and_then, ◌>>=◌, pure, halt, stuck, trap, spent, known, pay, say, mine, become, with_reference, counted_from, unless_left}
+use Rattle.hv_sem_copying.specs.Ops.{Target, Spot, Mode, Passed, Ops}
 use Rattle.hv_law_run_places.specs.NodePlaces.{in_nodes}
 use Rattle.hv_lemmas.proofs.Each.{Each}
 

@@ -11,17 +11,17 @@ use Rattle.hv_value.specs.ValueTree.{ValueTree, Fields, Elements, Closure, Nil, 
 use Rattle.hv_value.specs.ValueTree as v
 use Rattle.hv_value.specs.Texts.{text}
 use Rattle.hv_value.specs.Walk.{Link, ToField, ToIndex}
-use Rattle.hv_copying.specs.declared.end.Cause.TheVariants.{Kinds}
-use Rattle.hv_copying.specs.Run.{Run, Flow}
-use Rattle.hv_copying.specs.Ops.{Writes, Passed, Ops}
+use Rattle.hv_sem_copying.specs.declared.end.Cause.TheVariants.{Kinds}
+use Rattle.hv_sem_copying.specs.Run.{Run, Flow}
+use Rattle.hv_sem_copying.specs.Ops.{Writes, Passed, Ops}
 use Rattle.hv_value.specs.Operators.{binary, unary, decides}
-use Rattle.hv_copying.specs.Places.{holes, body_number, type_of}
-use Rattle.hv_copying.specs.Calls.{Deeper, passed_captures}
-use Rattle.hv_copying.specs.Blocks.{first_token}
-use Rattle.hv_copying.specs.Evaluate.{value, values, chained, indices, place_in, call, parts, args, child, own_values, block, statements, statement, choices, body_by, bodies_run, activations}
-use Rattle.hv_places.specs.Places.{in_ty, in_result, in_names, in_params, in_expr, in_exprs, in_links, in_steps, in_call, in_args, in_block, in_stmts, in_branches, in_stmt, places_of}
+use Rattle.hv_sem_copying.specs.Places.{holes, body_number, type_of}
+use Rattle.hv_sem_copying.specs.Calls.{Deeper, passed_captures}
+use Rattle.hv_sem_copying.specs.Blocks.{first_token}
+use Rattle.hv_sem_copying.specs.Evaluate.{value, values, chained, indices, place_in, call, parts, args, child, own_values, block, statements, statement, choices, body_by, bodies_run, activations}
+use Rattle.hv_law_places.specs.Places.{in_ty, in_result, in_names, in_params, in_expr, in_exprs, in_links, in_steps, in_call, in_args, in_block, in_stmts, in_branches, in_stmt, places_of}
 use Rattle.hv_lemmas.proofs.Each.{Each, each_split}
-use Rattle.hv_places.proofs.SitesTell.{BodyTells, bodies_tell}
+use Rattle.hv_law_places.proofs.SitesTell.{BodyTells, bodies_tell}
 use Rattle.hv_law_run_places.proofs.Tells.{Tells, Any, LinkTells, Telling, bind, next, pure_tells, stuck_tells, known_tells, if_tells, pay_tells, say_tells, counted_tells, unless_tells}
 use Rattle.hv_law_run_places.proofs.PartsTell as is
 use Rattle.hv_law_run_places.proofs.PartsTell.{PlacedTells, DeeperTells}

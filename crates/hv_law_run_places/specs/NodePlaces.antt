@@ -1,7 +1,7 @@
 -- All places that stand in a task's node: those at which it or one below it ended.
 use Rattle.std.specs.Prelude.{List, [], ◌∷◌, ◌++◌}
 use Rattle.hv_tree.specs.declared.place.Place.{Place}
-use Rattle.hv_copying.specs.Node.{End, Done, Trapped, SpentAt, Node, NodeOf, Nodes, NoNodes, NodeAnd}
+use Rattle.hv_sem_copying.specs.Node.{End, Done, Trapped, SpentAt, Node, NodeOf, Nodes, NoNodes, NodeAnd}
 
 -- where a task ended, if not well
 abbrev pub in_end : End → List Place

@@ -4,12 +4,12 @@ use Rattle.std.specs.Prelude.{codes}
 use Rattle.hv_tree.specs.declared.ast.Block.{Block}
 use Rattle.hv_tree.specs.declared.ast.Branch.{Branch}
 use Rattle.hv_tree.specs.Tokens.{Tokens}
-use Rattle.hv_grammar.specs.declared.parts.ElsePart.{ElsePart}
-use Rattle.hv_grammar.specs.declared.parts.ElsePart.TheVariants as part
-use Rattle.hv_grammar.specs.Parser.{Read, Got, Off, Deep, Parser, read_then, done, passes, until_within, until}
-use Rattle.hv_grammar.specs.Lexemes.{is_keyword}
-use Rattle.hv_grammar.specs.Expressions.{Inner}
-use Rattle.hv_grammar.specs.Statements.{is_last, branches_of, otherwise_of, else_parts, else_part}
+use Rattle.hv_syn_grammar.specs.declared.parts.ElsePart.{ElsePart}
+use Rattle.hv_syn_grammar.specs.declared.parts.ElsePart.TheVariants as part
+use Rattle.hv_syn_grammar.specs.Parser.{Read, Got, Off, Deep, Parser, read_then, done, passes, until_within, until}
+use Rattle.hv_syn_grammar.specs.Lexemes.{is_keyword}
+use Rattle.hv_syn_grammar.specs.Expressions.{Inner}
+use Rattle.hv_syn_grammar.specs.Statements.{is_last, branches_of, otherwise_of, else_parts, else_part}
 use Rattle.hv_parse.specs.Parts.{parts_after}
 use Rattle.hv_parse.proofs.Untils.{until_begins, until_none, until_end, until_more, until_last, until_off, until_deep, given}
 

@@ -4,9 +4,9 @@ use Rattle.std.specs.Prelude.{not, codes, Ok}
 use Rattle.hv_tree.specs.declared.ast.Stmt.{Stmt}
 use Rattle.hv_tree.specs.Refusal.{is_mark}
 use Rattle.hv_tree.specs.Tokens.{Tokens}
-use Rattle.hv_grammar.specs.Parser.{Read, Got, Off, Deep, Parser, read_then, done, passes, until_within}
-use Rattle.hv_grammar.specs.Expressions.{Inner}
-use Rattle.hv_grammar.specs.Statements.{Item, begins_item, not_closing, item, items, stmts, other_stmt, semicolon}
+use Rattle.hv_syn_grammar.specs.Parser.{Read, Got, Off, Deep, Parser, read_then, done, passes, until_within}
+use Rattle.hv_syn_grammar.specs.Expressions.{Inner}
+use Rattle.hv_syn_grammar.specs.Statements.{Item, begins_item, not_closing, item, items, stmts, other_stmt, semicolon}
 use Rattle.hv_parse.specs.Parts.{Adds, other_item}
 use Rattle.hv_parse.proofs.Untils.{until_begins, until_none, until_end, until_more, until_last, until_off, until_deep, given}
 

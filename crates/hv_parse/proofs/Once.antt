@@ -9,7 +9,7 @@ use Rattle.hv_tree.specs.Tokens.{Tokens}
 use Rattle.hv_tree.specs.Grammar.{Spells}
 use Rattle.hv_tree.specs.Refusal.{CanGoOn, NotWith, LeavesAt, TooManyAt, IsP1, IsP2, CountsAsP1, CountsAsP2, most_open}
 use Rattle.hv_tree.proofs.Refused.{leaves_once, counts_once}
-use Rattle.hv_exact.proofs.Rooms.{longer_front, less_or}
+use Rattle.hv_syn_exact.proofs.Rooms.{longer_front, less_or}
 use Rattle.hv_parse.specs.Answers.{IsParsed, IsRefused, unexpected, unfinished, too_deep, lexical, refused}
 
 cancel : (b r s : Tokens) → b ++ r ≡ b ++ s → r ≡ s

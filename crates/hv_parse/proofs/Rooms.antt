@@ -1,6 +1,6 @@
 -- What stands right inside a bracket, by the room there.
 use Rattle.std.proofs.Common.{◌≡◌, ℕ, zero, suc, ◌-◌, ◌<◌, refl, arith}
-use Rattle.hv_grammar.specs.Declarations.{inner, expr_at_room, place_at_room, stmts_at_room}
+use Rattle.hv_syn_grammar.specs.Declarations.{inner, expr_at_room, place_at_room, stmts_at_room}
 use Rattle.hv_tree.specs.Tokens.{Tokens}
 
 pub inner_expr : (room : ℕ) (ts : Tokens) → 0 < room → (inner room).expr ts ≡ expr_at_room (room - 1) ts

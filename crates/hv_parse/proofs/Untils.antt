@@ -3,7 +3,7 @@ use Rattle.std.proofs.Common.{◌≡◌, ℕ, zero, suc, ◌+◌, ◌-◌, ◌<�
 use Rattle.std.specs.Prelude.{if◌then◌else◌}
 use Rattle.hv_tree.specs.declared.token.Token.{Token}
 use Rattle.hv_tree.specs.Tokens.{Tokens}
-use Rattle.hv_grammar.specs.Parser.{Read, Got, Off, Deep, Parser, read_then, done, passes, unless_last, until_within, until}
+use Rattle.hv_syn_grammar.specs.Parser.{Read, Got, Off, Deep, Parser, read_then, done, passes, unless_last, until_within, until}
 
 module _ {A : Type 0} (test : Token → Bool) (last : A → Bool) (p : Parser A) where
   pub until_begins : {C : Type 0} (f : List A → C) (ts : Tokens) → read_then (until test last p ts) (λ more. done (f more)) ≡ read_then (until_within (length ts - 0) test last p ts) (λ more. done (f more))

@@ -9,13 +9,13 @@ use Rattle.hv_tree.specs.declared.ast.Tree.{Tree}
 use Rattle.hv_tree.specs.Tokens.{Tokens}
 use Rattle.hv_tree.specs.Grammar.{Spells}
 use Rattle.hv_tree.specs.Refusal.{most_open}
-use Rattle.hv_grammar.specs.declared.stop.Stop.{Stop}
-use Rattle.hv_grammar.specs.declared.stop.Stop.TheVariants as stop
-use Rattle.hv_grammar.specs.Parser.{Got, Off}
-use Rattle.hv_grammar.specs.Reads.{Reads}
-use Rattle.hv_grammar.specs.Declarations.{program}
-use Rattle.hv_exact.specs.Outcomes.{Outcome, IsProgram, Unfinished, TooManyOpen}
-use Rattle.hv_exact.proofs.Knot.{outcome}
+use Rattle.hv_syn_grammar.specs.declared.stop.Stop.{Stop}
+use Rattle.hv_syn_grammar.specs.declared.stop.Stop.TheVariants as stop
+use Rattle.hv_syn_grammar.specs.Parser.{Got, Off}
+use Rattle.hv_syn_grammar.specs.Reads.{Reads}
+use Rattle.hv_syn_grammar.specs.Declarations.{program}
+use Rattle.hv_syn_exact.specs.Outcomes.{Outcome, IsProgram, Unfinished, TooManyOpen}
+use Rattle.hv_syn_exact.proofs.Knot.{outcome}
 use Rattle.hv_parse.specs.Answers.{refused, IsRefused, unexpected, unfinished, too_deep, lexical, Parses}
 use Rattle.hv_parse.specs.Whole.{place_in, place_back, off_refusal, place_or, answer_of}
 

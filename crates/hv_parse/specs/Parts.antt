@@ -6,12 +6,12 @@ use Rattle.hv_tree.specs.declared.ast.Branch.{Branch}
 use Rattle.hv_tree.specs.declared.ast.Stmt.{Stmt}
 use Rattle.hv_tree.specs.Tokens.{Tokens}
 use Rattle.hv_tree.specs.Refusal.{is_mark}
-use Rattle.hv_grammar.specs.declared.stop.Stop.{Stop}
-use Rattle.hv_grammar.specs.declared.stop.Stop.TheVariants as stop
-use Rattle.hv_grammar.specs.Parser.{Parser, Read, Got, Off, Deep, ◌>>=◌, done}
-use Rattle.hv_grammar.specs.Lexemes.{is_keyword, is_word, after_keyword}
-use Rattle.hv_grammar.specs.Expressions.{Inner}
-use Rattle.hv_grammar.specs.Statements.{Item, after_return, other_stmt, semicolon}
+use Rattle.hv_syn_grammar.specs.declared.stop.Stop.{Stop}
+use Rattle.hv_syn_grammar.specs.declared.stop.Stop.TheVariants as stop
+use Rattle.hv_syn_grammar.specs.Parser.{Parser, Read, Got, Off, Deep, ◌>>=◌, done}
+use Rattle.hv_syn_grammar.specs.Lexemes.{is_keyword, is_word, after_keyword}
+use Rattle.hv_syn_grammar.specs.Expressions.{Inner}
+use Rattle.hv_syn_grammar.specs.Statements.{Item, after_return, other_stmt, semicolon}
 
 -- the first token of the statements with which `begins_stmt` ends
 abbrev pub begins_other : Token → Bool

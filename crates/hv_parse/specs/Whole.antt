@@ -7,8 +7,8 @@ use Rattle.hv_tree.specs.declared.refusal.Refusal.{Refusal}
 use Rattle.hv_tree.specs.declared.token.Token.{Token}
 use Rattle.hv_tree.specs.declared.ast.Tree.{Tree}
 use Rattle.hv_tree.specs.Tokens.{Tokens}
-use Rattle.hv_grammar.specs.declared.stop.Stop.{Stop}
-use Rattle.hv_grammar.specs.declared.stop.Stop.TheVariants as stop
+use Rattle.hv_syn_grammar.specs.declared.stop.Stop.{Stop}
+use Rattle.hv_syn_grammar.specs.declared.stop.Stop.TheVariants as stop
 use Rattle.hv_parse.specs.declared.parsed.ParseEnd.{ParseEnd}
 use Rattle.hv_parse.specs.declared.parsed.ParseEnd.TheVariants as end
 use Rattle.hv_parse.specs.Answers.{refused}

@@ -1,19 +1,19 @@
 //! Bindings and assignments.
 
-ghost use Rattle.hv_grammar.specs.Reads.{Reads};
-ghost use Rattle.hv_grammar.specs.Declarations.{inner};
-ghost use Rattle.hv_grammar.specs.Statements as spec;
-ghost use Rattle.hv_terms.specs.Nests.{NestsExpr, NestsPlace, NestsStmts};
+ghost use Rattle.hv_syn_grammar.specs.Reads.{Reads};
+ghost use Rattle.hv_syn_grammar.specs.Declarations.{inner};
+ghost use Rattle.hv_syn_grammar.specs.Statements as spec;
+ghost use Rattle.hv_syn_terms.specs.Nests.{NestsExpr, NestsPlace, NestsStmts};
 
 use crate::statements::Statements;
-use hv_grammar::{Cursor, Stop};
+use hv_syn_grammar::{Cursor, Stop};
 use hv_items::{Items, beside};
-use hv_terms::type_at;
+use hv_syn_terms::type_at;
 use hv_tree::{Expr, Name, PlaceExpr, Stmt, StmtKind, Ty};
 use std::alloc::Global;
 
 /// A name and its type.
-#[tactic(auto, unfolding(hv_grammar::specs::Statements::typed_name, hv_items::specs::Kept::paired))]
+#[tactic(auto, unfolding(hv_syn_grammar::specs::Statements::typed_name, hv_items::specs::Kept::paired))]
 fn typed_name(alloc: Global, cursor: &mut Cursor<'_>, room: usize) -> Result<(Name, Ty), Stop>
     ensures { Reads (spec.typed_name room (inner room) cursor.old) result cursor.new }
 {
@@ -27,7 +27,7 @@ impl<
     P: Fn(Global, &mut Cursor<'_>, usize) -> Result<PlaceExpr, Stop>,
     B: Fn(Global, &mut Cursor<'_>, usize) -> Result<Items<Stmt>, Stop>,
 > Statements<F, P, B> {
-    #[tactic(auto, unfolding(hv_grammar::specs::Statements::initial))]
+    #[tactic(auto, unfolding(hv_syn_grammar::specs::Statements::initial))]
     fn initial(&self, cursor: &mut Cursor<'_>) -> Result<Option<Expr>, Stop>
         requires expr { NestsExpr self.now.terms.room (F.pre self.now.terms.expr) (F.post self.now.terms.expr) }
         requires place { NestsPlace self.now.terms.room (P.pre self.now.terms.place) (P.post self.now.terms.place) }
@@ -41,7 +41,7 @@ impl<
         Ok(Some(self.terms.expr(cursor)?))
     }
 
-    #[tactic(auto, unfolding(hv_grammar::specs::Statements::var_stmt, hv_items::specs::Kept::paired))]
+    #[tactic(auto, unfolding(hv_syn_grammar::specs::Statements::var_stmt, hv_items::specs::Kept::paired))]
     pub(crate) fn var_stmt(&self, cursor: &mut Cursor<'_>) -> Result<Stmt, Stop>
         requires expr { NestsExpr self.now.terms.room (F.pre self.now.terms.expr) (F.post self.now.terms.expr) }
         requires place { NestsPlace self.now.terms.room (P.pre self.now.terms.place) (P.post self.now.terms.place) }
@@ -57,7 +57,7 @@ impl<
         })
     }
 
-    #[tactic(auto, unfolding(hv_grammar::specs::Statements::let_stmt, hv_items::specs::Kept::paired))]
+    #[tactic(auto, unfolding(hv_syn_grammar::specs::Statements::let_stmt, hv_items::specs::Kept::paired))]
     pub(crate) fn let_stmt(&self, cursor: &mut Cursor<'_>) -> Result<Stmt, Stop>
         requires expr { NestsExpr self.now.terms.room (F.pre self.now.terms.expr) (F.post self.now.terms.expr) }
         requires place { NestsPlace self.now.terms.room (P.pre self.now.terms.place) (P.post self.now.terms.place) }
@@ -74,7 +74,7 @@ impl<
         })
     }
 
-    #[tactic(auto, unfolding(hv_grammar::specs::Statements::inout_stmt, hv_items::specs::Kept::paired))]
+    #[tactic(auto, unfolding(hv_syn_grammar::specs::Statements::inout_stmt, hv_items::specs::Kept::paired))]
     pub(crate) fn inout_stmt(&self, cursor: &mut Cursor<'_>) -> Result<Stmt, Stop>
         requires expr { NestsExpr self.now.terms.room (F.pre self.now.terms.expr) (F.post self.now.terms.expr) }
         requires place { NestsPlace self.now.terms.room (P.pre self.now.terms.place) (P.post self.now.terms.place) }
@@ -92,7 +92,7 @@ impl<
         })
     }
 
-    #[tactic(auto, unfolding(hv_grammar::specs::Statements::assign_stmt, hv_items::specs::Kept::paired))]
+    #[tactic(auto, unfolding(hv_syn_grammar::specs::Statements::assign_stmt, hv_items::specs::Kept::paired))]
     pub(crate) fn assign_stmt(&self, cursor: &mut Cursor<'_>) -> Result<Stmt, Stop>
         requires expr { NestsExpr self.now.terms.room (F.pre self.now.terms.expr) (F.post self.now.terms.expr) }
         requires place { NestsPlace self.now.terms.room (P.pre self.now.terms.place) (P.post self.now.terms.place) }

@@ -1,13 +1,13 @@
 //! Tests and loops.
 
-ghost use Rattle.hv_grammar.specs.Reads.{Reads};
-ghost use Rattle.hv_grammar.specs.Declarations.{inner};
-ghost use Rattle.hv_grammar.specs.Statements as spec;
-ghost use Rattle.hv_terms.specs.Nests.{NestsExpr, NestsPlace, NestsStmts};
+ghost use Rattle.hv_syn_grammar.specs.Reads.{Reads};
+ghost use Rattle.hv_syn_grammar.specs.Declarations.{inner};
+ghost use Rattle.hv_syn_grammar.specs.Statements as spec;
+ghost use Rattle.hv_syn_terms.specs.Nests.{NestsExpr, NestsPlace, NestsStmts};
 ghost use Rattle.hv_parse.specs.Parts.{parts_after};
 
 use crate::statements::Statements;
-use hv_grammar::{Cursor, ElsePart, Stop};
+use hv_syn_grammar::{Cursor, ElsePart, Stop};
 use hv_items::{Items, beside};
 use hv_tree::{Block, Branch, Expr, PlaceExpr, Stmt, StmtKind};
 use std::alloc::Global;
@@ -17,7 +17,7 @@ impl<
     P: Fn(Global, &mut Cursor<'_>, usize) -> Result<PlaceExpr, Stop>,
     B: Fn(Global, &mut Cursor<'_>, usize) -> Result<Items<Stmt>, Stop>,
 > Statements<F, P, B> {
-    #[tactic(auto, unfolding(hv_grammar::specs::Statements::branch, hv_items::specs::Kept::paired))]
+    #[tactic(auto, unfolding(hv_syn_grammar::specs::Statements::branch, hv_items::specs::Kept::paired))]
     fn branch(&self, cursor: &mut Cursor<'_>) -> Result<Branch, Stop>
         requires expr { NestsExpr self.now.terms.room (F.pre self.now.terms.expr) (F.post self.now.terms.expr) }
         requires place { NestsPlace self.now.terms.room (P.pre self.now.terms.place) (P.post self.now.terms.place) }
@@ -31,7 +31,7 @@ impl<
     }
 
     /// What follows an `else`.
-    #[tactic(auto, unfolding(hv_grammar::specs::Statements::else_part))]
+    #[tactic(auto, unfolding(hv_syn_grammar::specs::Statements::else_part))]
     fn else_part(&self, cursor: &mut Cursor<'_>) -> Result<ElsePart, Stop>
         requires expr { NestsExpr self.now.terms.room (F.pre self.now.terms.expr) (F.post self.now.terms.expr) }
         requires place { NestsPlace self.now.terms.room (P.pre self.now.terms.place) (P.post self.now.terms.place) }
@@ -47,7 +47,7 @@ impl<
     }
 
     /// The other branches after the first, and the last block.
-    #[tactic(auto, using(crate::proofs::ElseTurns::else_begins, crate::proofs::ElseTurns::else_none, crate::proofs::ElseTurns::else_end, crate::proofs::ElseTurns::else_test, crate::proofs::ElseTurns::else_last, crate::proofs::ElseTurns::else_off, crate::proofs::ElseTurns::else_deep), unfolding(hv_grammar::specs::Statements::else_parts))]
+    #[tactic(auto, using(crate::proofs::ElseTurns::else_begins, crate::proofs::ElseTurns::else_none, crate::proofs::ElseTurns::else_end, crate::proofs::ElseTurns::else_test, crate::proofs::ElseTurns::else_last, crate::proofs::ElseTurns::else_off, crate::proofs::ElseTurns::else_deep), unfolding(hv_syn_grammar::specs::Statements::else_parts))]
     fn branches_from(
         &self,
         cursor: &mut Cursor<'_>,
@@ -72,7 +72,7 @@ impl<
         Ok((found, None))
     }
 
-    #[tactic(auto, using(crate::proofs::ElseTurns::parts_then), unfolding(hv_grammar::specs::Statements::if_stmt, hv_items::specs::Kept::paired))]
+    #[tactic(auto, using(crate::proofs::ElseTurns::parts_then), unfolding(hv_syn_grammar::specs::Statements::if_stmt, hv_items::specs::Kept::paired))]
     pub(crate) fn if_stmt(&self, cursor: &mut Cursor<'_>) -> Result<Stmt, Stop>
         requires expr { NestsExpr self.now.terms.room (F.pre self.now.terms.expr) (F.post self.now.terms.expr) }
         requires place { NestsPlace self.now.terms.room (P.pre self.now.terms.place) (P.post self.now.terms.place) }
@@ -89,7 +89,7 @@ impl<
         })
     }
 
-    #[tactic(auto, unfolding(hv_grammar::specs::Statements::while_stmt, hv_items::specs::Kept::paired))]
+    #[tactic(auto, unfolding(hv_syn_grammar::specs::Statements::while_stmt, hv_items::specs::Kept::paired))]
     pub(crate) fn while_stmt(&self, cursor: &mut Cursor<'_>) -> Result<Stmt, Stop>
         requires expr { NestsExpr self.now.terms.room (F.pre self.now.terms.expr) (F.post self.now.terms.expr) }
         requires place { NestsPlace self.now.terms.room (P.pre self.now.terms.place) (P.post self.now.terms.place) }

@@ -1,23 +1,23 @@
 //! Declarations, and a whole list of them.
 
-ghost use Rattle.hv_grammar.specs.Reads.{Reads};
-ghost use Rattle.hv_grammar.specs.Parser.{passes};
-ghost use Rattle.hv_grammar.specs.Declarations as spec;
+ghost use Rattle.hv_syn_grammar.specs.Reads.{Reads};
+ghost use Rattle.hv_syn_grammar.specs.Parser.{passes};
+ghost use Rattle.hv_syn_grammar.specs.Declarations as spec;
 ghost use Rattle.std.specs.Prelude.{◌≡◌};
 ghost use Rattle.hv_tree.specs.Refusal.{most_open};
 
 use crate::knot::block_at;
 use crate::marks::semicolon;
-use hv_grammar::{Cursor, Stop};
+use hv_syn_grammar::{Cursor, Stop};
 use hv_items::{Items, beside};
-use hv_terms::{bracketed_params, returned, type_at};
+use hv_syn_terms::{bracketed_params, returned, type_at};
 use hv_tree::{Decl, Field, FunDecl, StructDecl, Tree};
 use std::alloc::Global;
 
 /// How many brackets may be open.
 const MOST_OPEN: usize = 100;
 
-#[tactic(auto, unfolding(hv_grammar::specs::Declarations::field, hv_items::specs::Kept::paired))]
+#[tactic(auto, unfolding(hv_syn_grammar::specs::Declarations::field, hv_items::specs::Kept::paired))]
 fn field(alloc: Global, cursor: &mut Cursor<'_>, room: usize) -> Result<Field, Stop>
     ensures { Reads (spec.field room cursor.old) result cursor.new }
 {
@@ -29,7 +29,7 @@ fn field(alloc: Global, cursor: &mut Cursor<'_>, room: usize) -> Result<Field, S
     Ok(Field { name, ty })
 }
 
-#[tactic(auto, using(hv_grammar::proofs::Loops::many_begins, hv_grammar::proofs::Loops::turn_none, hv_grammar::proofs::Loops::turn_end, hv_grammar::proofs::Loops::turn_more, hv_grammar::proofs::Loops::turn_off, hv_grammar::proofs::Loops::turn_deep), unfolding(hv_grammar::specs::Declarations::fields))]
+#[tactic(auto, using(hv_syn_grammar::proofs::Loops::many_begins, hv_syn_grammar::proofs::Loops::turn_none, hv_syn_grammar::proofs::Loops::turn_end, hv_syn_grammar::proofs::Loops::turn_more, hv_syn_grammar::proofs::Loops::turn_off, hv_syn_grammar::proofs::Loops::turn_deep), unfolding(hv_syn_grammar::specs::Declarations::fields))]
 fn fields(alloc: Global, cursor: &mut Cursor<'_>, room: usize) -> Result<Items<Field>, Stop>
     ensures { Reads (spec.fields room cursor.old) result cursor.new }
 {
@@ -44,7 +44,7 @@ fn fields(alloc: Global, cursor: &mut Cursor<'_>, room: usize) -> Result<Items<F
     Ok(found)
 }
 
-#[tactic(auto, unfolding(hv_grammar::specs::Declarations::struct_decl, hv_items::specs::Kept::paired))]
+#[tactic(auto, unfolding(hv_syn_grammar::specs::Declarations::struct_decl, hv_items::specs::Kept::paired))]
 fn struct_decl(alloc: Global, cursor: &mut Cursor<'_>, room: usize) -> Result<Decl, Stop>
     ensures { Reads (spec.struct_decl room cursor.old) result cursor.new }
 {
@@ -56,7 +56,7 @@ fn struct_decl(alloc: Global, cursor: &mut Cursor<'_>, room: usize) -> Result<De
     Ok(Decl::Struct(StructDecl { name, fields }))
 }
 
-#[tactic(auto, unfolding(hv_grammar::specs::Declarations::fun_decl, hv_items::specs::Kept::paired))]
+#[tactic(auto, unfolding(hv_syn_grammar::specs::Declarations::fun_decl, hv_items::specs::Kept::paired))]
 fn fun_decl(alloc: Global, cursor: &mut Cursor<'_>, room: usize) -> Result<Decl, Stop>
     ensures { Reads (spec.fun_decl room cursor.old) result cursor.new }
 {
@@ -73,7 +73,7 @@ fn fun_decl(alloc: Global, cursor: &mut Cursor<'_>, room: usize) -> Result<Decl,
     }))
 }
 
-#[tactic(auto, unfolding(hv_grammar::specs::Declarations::one_decl))]
+#[tactic(auto, unfolding(hv_syn_grammar::specs::Declarations::one_decl))]
 fn one_decl(alloc: Global, cursor: &mut Cursor<'_>, room: usize) -> Result<Decl, Stop>
     ensures { Reads (spec.one_decl room cursor.old) result cursor.new }
 {
@@ -90,7 +90,7 @@ fn begins_decl(cursor: &Cursor<'_>) -> bool
     cursor.sees_keyword("struct") || cursor.sees_keyword("fun")
 }
 
-#[tactic(auto, using(hv_grammar::proofs::Loops::many_begins, hv_grammar::proofs::Loops::turn_none, hv_grammar::proofs::Loops::turn_end, hv_grammar::proofs::Loops::turn_more, hv_grammar::proofs::Loops::turn_off, hv_grammar::proofs::Loops::turn_deep), unfolding(hv_grammar::specs::Declarations::decls))]
+#[tactic(auto, using(hv_syn_grammar::proofs::Loops::many_begins, hv_syn_grammar::proofs::Loops::turn_none, hv_syn_grammar::proofs::Loops::turn_end, hv_syn_grammar::proofs::Loops::turn_more, hv_syn_grammar::proofs::Loops::turn_off, hv_syn_grammar::proofs::Loops::turn_deep), unfolding(hv_syn_grammar::specs::Declarations::decls))]
 fn decls(alloc: Global, cursor: &mut Cursor<'_>, room: usize) -> Result<Items<Decl>, Stop>
     ensures { Reads (spec.decls room cursor.old) result cursor.new }
 {
@@ -106,7 +106,7 @@ fn decls(alloc: Global, cursor: &mut Cursor<'_>, room: usize) -> Result<Items<De
 }
 
 /// The tree of all tokens that are left.
-#[tactic(auto, using(crate::proofs::Ends::at_end, crate::proofs::Ends::before_end), unfolding(hv_grammar::specs::Declarations::program))]
+#[tactic(auto, using(crate::proofs::Ends::at_end, crate::proofs::Ends::before_end), unfolding(hv_syn_grammar::specs::Declarations::program))]
 pub(crate) fn program(alloc: Global, cursor: &mut Cursor<'_>) -> Result<Tree, Stop>
     ensures { Reads (spec.program most_open cursor.old) result cursor.new }
 {

@@ -1,16 +1,16 @@
 //! Lists of statements. A `return` without a value has to be the last one.
 
 ghost use Rattle.std.specs.Prelude.{◌≡◌};
-ghost use Rattle.hv_grammar.specs.Parser.{passes};
+ghost use Rattle.hv_syn_grammar.specs.Parser.{passes};
 ghost use Rattle.hv_parse.specs.Parts.{begins_other, return_item, other_item, Adds};
-ghost use Rattle.hv_grammar.specs.Reads.{Reads};
-ghost use Rattle.hv_grammar.specs.Declarations.{inner};
-ghost use Rattle.hv_grammar.specs.Statements as spec;
-ghost use Rattle.hv_terms.specs.Nests.{NestsExpr, NestsPlace, NestsStmts};
+ghost use Rattle.hv_syn_grammar.specs.Reads.{Reads};
+ghost use Rattle.hv_syn_grammar.specs.Declarations.{inner};
+ghost use Rattle.hv_syn_grammar.specs.Statements as spec;
+ghost use Rattle.hv_syn_terms.specs.Nests.{NestsExpr, NestsPlace, NestsStmts};
 
 use crate::marks::semicolon;
 use crate::statements::Statements;
-use hv_grammar::{Cursor, Stop};
+use hv_syn_grammar::{Cursor, Stop};
 use hv_items::{Items, beside};
 use hv_tree::{Expr, Place, PlaceExpr, Stmt, StmtKind};
 use std::alloc::Global;
@@ -66,7 +66,7 @@ impl<
     P: Fn(Global, &mut Cursor<'_>, usize) -> Result<PlaceExpr, Stop>,
     B: Fn(Global, &mut Cursor<'_>, usize) -> Result<Items<Stmt>, Stop>,
 > Statements<F, P, B> {
-    #[tactic(auto, unfolding(hv_grammar::specs::Statements::valued_return, hv_items::specs::Kept::paired))]
+    #[tactic(auto, unfolding(hv_syn_grammar::specs::Statements::valued_return, hv_items::specs::Kept::paired))]
     fn valued_return(&self, cursor: &mut Cursor<'_>, at: Place) -> Result<(Stmt, bool), Stop>
         requires expr { NestsExpr self.now.terms.room (F.pre self.now.terms.expr) (F.post self.now.terms.expr) }
         requires place { NestsPlace self.now.terms.room (P.pre self.now.terms.place) (P.post self.now.terms.place) }
@@ -79,7 +79,7 @@ impl<
     }
 
     /// What follows the word `return`, and whether it has to be the last statement.
-    #[tactic(auto, unfolding(hv_grammar::specs::Statements::after_return))]
+    #[tactic(auto, unfolding(hv_syn_grammar::specs::Statements::after_return))]
     fn after_return(&self, cursor: &mut Cursor<'_>, at: Place) -> Result<(Stmt, bool), Stop>
         requires expr { NestsExpr self.now.terms.room (F.pre self.now.terms.expr) (F.post self.now.terms.expr) }
         requires place { NestsPlace self.now.terms.room (P.pre self.now.terms.place) (P.post self.now.terms.place) }
@@ -132,7 +132,7 @@ impl<
     }
 
     /// Whether the statement that it adds has to be the last.
-    #[tactic(auto, unfolding(hv_grammar::specs::Statements::item))]
+    #[tactic(auto, unfolding(hv_syn_grammar::specs::Statements::item))]
     fn one_more(&self, cursor: &mut Cursor<'_>, found: &mut Items<Stmt>) -> Result<bool, Stop>
         requires expr { NestsExpr self.now.terms.room (F.pre self.now.terms.expr) (F.post self.now.terms.expr) }
         requires place { NestsPlace self.now.terms.room (P.pre self.now.terms.place) (P.post self.now.terms.place) }

@@ -1,19 +1,19 @@
 //! Expressions, places and statements, each of which reads the others right inside a bracket.
 
-ghost use Rattle.hv_grammar.specs.Reads.{Reads};
-ghost use Rattle.hv_grammar.specs.Declarations.{inner, expr_at_room, place_at_room, stmts_at_room};
-ghost use Rattle.hv_grammar.specs.Expressions.{block};
+ghost use Rattle.hv_syn_grammar.specs.Reads.{Reads};
+ghost use Rattle.hv_syn_grammar.specs.Declarations.{inner, expr_at_room, place_at_room, stmts_at_room};
+ghost use Rattle.hv_syn_grammar.specs.Expressions.{block};
 
 use crate::statements::Statements;
-use hv_grammar::{Cursor, Stop};
+use hv_syn_grammar::{Cursor, Stop};
 use hv_items::Items;
-use hv_terms::Grammar;
+use hv_syn_terms::Grammar;
 use hv_tree::{Block, Expr, PlaceExpr, Stmt};
 use std::alloc::Global;
 
 /// An expression, where `room` more brackets may be opened.
 #[cycle(knot)]
-#[tactic(auto, using(crate::proofs::Rooms::inner_expr, crate::proofs::Rooms::inner_place, crate::proofs::Rooms::inner_stmts), unfolding(hv_grammar::specs::Declarations::expr_at_room))]
+#[tactic(auto, using(crate::proofs::Rooms::inner_expr, crate::proofs::Rooms::inner_place, crate::proofs::Rooms::inner_stmts), unfolding(hv_syn_grammar::specs::Declarations::expr_at_room))]
 pub(crate) fn expr_to(alloc: Global, cursor: &mut Cursor<'_>, room: usize) -> Result<Expr, Stop>
     ensures { Reads (expr_at_room room cursor.old) result cursor.new }
 {
@@ -29,7 +29,7 @@ pub(crate) fn expr_to(alloc: Global, cursor: &mut Cursor<'_>, room: usize) -> Re
 
 /// A place, where `room` more brackets may be opened.
 #[cycle(knot)]
-#[tactic(auto, using(crate::proofs::Rooms::inner_expr, crate::proofs::Rooms::inner_place, crate::proofs::Rooms::inner_stmts), unfolding(hv_grammar::specs::Declarations::place_at_room))]
+#[tactic(auto, using(crate::proofs::Rooms::inner_expr, crate::proofs::Rooms::inner_place, crate::proofs::Rooms::inner_stmts), unfolding(hv_syn_grammar::specs::Declarations::place_at_room))]
 pub(crate) fn place_to(
     alloc: Global,
     cursor: &mut Cursor<'_>,
@@ -49,7 +49,7 @@ pub(crate) fn place_to(
 
 /// Statements, where `room` more brackets may be opened.
 #[cycle(knot)]
-#[tactic(auto, using(crate::proofs::Rooms::inner_expr, crate::proofs::Rooms::inner_place, crate::proofs::Rooms::inner_stmts), unfolding(hv_grammar::specs::Declarations::stmts_at_room))]
+#[tactic(auto, using(crate::proofs::Rooms::inner_expr, crate::proofs::Rooms::inner_place, crate::proofs::Rooms::inner_stmts), unfolding(hv_syn_grammar::specs::Declarations::stmts_at_room))]
 pub(crate) fn stmts_to(
     alloc: Global,
     cursor: &mut Cursor<'_>,

@@ -1,12 +1,12 @@
 //! A mark that may be left out.
 
-ghost use Rattle.hv_grammar.specs.Reads.{Reads};
-ghost use Rattle.hv_grammar.specs.Statements as spec;
+ghost use Rattle.hv_syn_grammar.specs.Reads.{Reads};
+ghost use Rattle.hv_syn_grammar.specs.Statements as spec;
 
-use hv_grammar::{Cursor, Stop};
+use hv_syn_grammar::{Cursor, Stop};
 
 /// A `;`, if there is one.
-#[tactic(auto, unfolding(hv_grammar::specs::Statements::semicolon))]
+#[tactic(auto, unfolding(hv_syn_grammar::specs::Statements::semicolon))]
 pub(crate) fn semicolon(cursor: &mut Cursor<'_>) -> Result<(), Stop>
     ensures { Reads (spec.semicolon cursor.old) result cursor.new }
 {

@@ -5,7 +5,7 @@ ghost use Rattle.hv_parse.specs.Answers.{Parses};
 ghost use Rattle.hv_parse.specs.Whole.{place_back, off_refusal, answer_of};
 
 use crate::declarations::program;
-use hv_grammar::{Cursor, Stop};
+use hv_syn_grammar::{Cursor, Stop};
 use hv_token::Lexed;
 use hv_tree::{Place, Refusal, Rule, Tree};
 use std::alloc::Global;

@@ -1,13 +1,13 @@
 //! Statements other than returns, by their first token.
 
-ghost use Rattle.hv_grammar.specs.Reads.{Reads};
-ghost use Rattle.hv_grammar.specs.Declarations.{inner};
-ghost use Rattle.hv_grammar.specs.Statements as spec;
-ghost use Rattle.hv_terms.specs.Nests.{NestsExpr, NestsPlace, NestsStmts};
+ghost use Rattle.hv_syn_grammar.specs.Reads.{Reads};
+ghost use Rattle.hv_syn_grammar.specs.Declarations.{inner};
+ghost use Rattle.hv_syn_grammar.specs.Statements as spec;
+ghost use Rattle.hv_syn_terms.specs.Nests.{NestsExpr, NestsPlace, NestsStmts};
 
-use hv_grammar::{Cursor, Stop};
+use hv_syn_grammar::{Cursor, Stop};
 use hv_items::Items;
-use hv_terms::Grammar;
+use hv_syn_terms::Grammar;
 use hv_tree::{Expr, PlaceExpr, Stmt, StmtKind};
 use std::alloc::Global;
 
@@ -22,7 +22,7 @@ impl<
     P: Fn(Global, &mut Cursor<'_>, usize) -> Result<PlaceExpr, Stop>,
     B: Fn(Global, &mut Cursor<'_>, usize) -> Result<Items<Stmt>, Stop>,
 > Statements<F, P, B> {
-    #[tactic(auto, unfolding(hv_grammar::specs::Statements::call_stmt))]
+    #[tactic(auto, unfolding(hv_syn_grammar::specs::Statements::call_stmt))]
     fn call_stmt(&self, cursor: &mut Cursor<'_>) -> Result<Stmt, Stop>
         requires expr { NestsExpr self.now.terms.room (F.pre self.now.terms.expr) (F.post self.now.terms.expr) }
         requires place { NestsPlace self.now.terms.room (P.pre self.now.terms.place) (P.post self.now.terms.place) }
@@ -36,7 +36,7 @@ impl<
         })
     }
 
-    #[tactic(auto, unfolding(hv_grammar::specs::Statements::block_stmt))]
+    #[tactic(auto, unfolding(hv_syn_grammar::specs::Statements::block_stmt))]
     fn block_stmt(&self, cursor: &mut Cursor<'_>) -> Result<Stmt, Stop>
         requires expr { NestsExpr self.now.terms.room (F.pre self.now.terms.expr) (F.post self.now.terms.expr) }
         requires place { NestsPlace self.now.terms.room (P.pre self.now.terms.place) (P.post self.now.terms.place) }
@@ -51,7 +51,7 @@ impl<
     }
 
     /// What begins with a name or a mark.
-    #[tactic(auto, unfolding(hv_grammar::specs::Statements::plain_stmt))]
+    #[tactic(auto, unfolding(hv_syn_grammar::specs::Statements::plain_stmt))]
     fn plain_stmt(&self, cursor: &mut Cursor<'_>) -> Result<Stmt, Stop>
         requires expr { NestsExpr self.now.terms.room (F.pre self.now.terms.expr) (F.post self.now.terms.expr) }
         requires place { NestsPlace self.now.terms.room (P.pre self.now.terms.place) (P.post self.now.terms.place) }
@@ -67,7 +67,7 @@ impl<
         }
     }
 
-    #[tactic(auto, unfolding(hv_grammar::specs::Statements::action))]
+    #[tactic(auto, unfolding(hv_syn_grammar::specs::Statements::action))]
     fn action(&self, cursor: &mut Cursor<'_>) -> Result<Stmt, Stop>
         requires expr { NestsExpr self.now.terms.room (F.pre self.now.terms.expr) (F.post self.now.terms.expr) }
         requires place { NestsPlace self.now.terms.room (P.pre self.now.terms.place) (P.post self.now.terms.place) }
@@ -90,7 +90,7 @@ impl<
     }
 
     /// A statement other than a `return`.
-    #[tactic(auto, unfolding(hv_grammar::specs::Statements::other_stmt))]
+    #[tactic(auto, unfolding(hv_syn_grammar::specs::Statements::other_stmt))]
     pub(crate) fn other_stmt(&self, cursor: &mut Cursor<'_>) -> Result<Stmt, Stop>
         requires expr { NestsExpr self.now.terms.room (F.pre self.now.terms.expr) (F.post self.now.terms.expr) }
         requires place { NestsPlace self.now.terms.room (P.pre self.now.terms.place) (P.post self.now.terms.place) }

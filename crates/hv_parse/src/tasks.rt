@@ -1,19 +1,19 @@
 //! Prints, tasks and what awaits them.
 
-ghost use Rattle.hv_grammar.specs.Reads.{Reads};
-ghost use Rattle.hv_grammar.specs.Declarations.{inner};
-ghost use Rattle.hv_grammar.specs.Statements as spec;
-ghost use Rattle.hv_terms.specs.Nests.{NestsExpr, NestsPlace, NestsStmts};
+ghost use Rattle.hv_syn_grammar.specs.Reads.{Reads};
+ghost use Rattle.hv_syn_grammar.specs.Declarations.{inner};
+ghost use Rattle.hv_syn_grammar.specs.Statements as spec;
+ghost use Rattle.hv_syn_terms.specs.Nests.{NestsExpr, NestsPlace, NestsStmts};
 
 use crate::statements::Statements;
-use hv_grammar::{Cursor, Stop};
+use hv_syn_grammar::{Cursor, Stop};
 use hv_items::{Items, beside};
-use hv_terms::type_at;
+use hv_syn_terms::type_at;
 use hv_tree::{Expr, Place, PlaceExpr, Stmt, StmtKind, Ty};
 use std::alloc::Global;
 
 /// The type of a task's handle, if there is one.
-#[tactic(auto, unfolding(hv_grammar::specs::Statements::task_type))]
+#[tactic(auto, unfolding(hv_syn_grammar::specs::Statements::task_type))]
 fn task_type(alloc: Global, cursor: &mut Cursor<'_>, room: usize) -> Result<Option<Ty>, Stop>
     ensures { Reads (spec.task_type room (inner room) cursor.old) result cursor.new }
 {
@@ -29,7 +29,7 @@ impl<
     P: Fn(Global, &mut Cursor<'_>, usize) -> Result<PlaceExpr, Stop>,
     B: Fn(Global, &mut Cursor<'_>, usize) -> Result<Items<Stmt>, Stop>,
 > Statements<F, P, B> {
-    #[tactic(auto, unfolding(hv_grammar::specs::Statements::print_stmt, hv_items::specs::Kept::paired))]
+    #[tactic(auto, unfolding(hv_syn_grammar::specs::Statements::print_stmt, hv_items::specs::Kept::paired))]
     pub(crate) fn print_stmt(&self, cursor: &mut Cursor<'_>) -> Result<Stmt, Stop>
         requires expr { NestsExpr self.now.terms.room (F.pre self.now.terms.expr) (F.post self.now.terms.expr) }
         requires place { NestsPlace self.now.terms.room (P.pre self.now.terms.place) (P.post self.now.terms.place) }
@@ -47,7 +47,7 @@ impl<
     }
 
     /// The place of the word `spawn`, and the budget behind it.
-    #[tactic(auto, unfolding(hv_grammar::specs::Statements::budget, hv_items::specs::Kept::paired))]
+    #[tactic(auto, unfolding(hv_syn_grammar::specs::Statements::budget, hv_items::specs::Kept::paired))]
     fn budget(&self, cursor: &mut Cursor<'_>) -> Result<(Place, Expr), Stop>
         requires expr { NestsExpr self.now.terms.room (F.pre self.now.terms.expr) (F.post self.now.terms.expr) }
         requires place { NestsPlace self.now.terms.room (P.pre self.now.terms.place) (P.post self.now.terms.place) }
@@ -61,7 +61,7 @@ impl<
         Ok((spawn, budget))
     }
 
-    #[tactic(auto, unfolding(hv_grammar::specs::Statements::task_stmt, hv_items::specs::Kept::paired))]
+    #[tactic(auto, unfolding(hv_syn_grammar::specs::Statements::task_stmt, hv_items::specs::Kept::paired))]
     pub(crate) fn task_stmt(&self, cursor: &mut Cursor<'_>) -> Result<Stmt, Stop>
         requires expr { NestsExpr self.now.terms.room (F.pre self.now.terms.expr) (F.post self.now.terms.expr) }
         requires place { NestsPlace self.now.terms.room (P.pre self.now.terms.place) (P.post self.now.terms.place) }
@@ -83,7 +83,7 @@ impl<
         })
     }
 
-    #[tactic(auto, unfolding(hv_grammar::specs::Statements::await_stmt))]
+    #[tactic(auto, unfolding(hv_syn_grammar::specs::Statements::await_stmt))]
     pub(crate) fn await_stmt(&self, cursor: &mut Cursor<'_>) -> Result<Stmt, Stop>
         ensures { Reads (spec.await_stmt self.now.terms.room (inner self.now.terms.room) cursor.old) result cursor.new }
     {

@@ -6,20 +6,20 @@ use Rattle.hv_tree.specs.declared.ast.Tree.{Tree}
 use Rattle.hv_tree.specs.Tokens.{Tokens, Ors}
 use Rattle.hv_tree.specs.Grammar.{IsLevel, AreStmts, AreDecls, Spells}
 use Rattle.hv_tree.specs.Refusal.{is_opening, is_closing}
-use Rattle.hv_grammar.specs.Parser.{Read, Got, Off, Deep}
-use Rattle.hv_grammar.specs.Room.{room, one_less, option_then}
-use Rattle.hv_grammar.specs.Expressions.{Inner, disjunction, place, begins_step}
-use Rattle.hv_grammar.specs.Statements.{not_closing, stmts}
-use Rattle.hv_grammar.specs.Declarations.{inner, decls, begins_decl}
-use Rattle.hv_exact.proofs.Exact.{Exact, Sound, Succeeds}
-use Rattle.hv_exact.proofs.Inner.{InnerExact, on_expr, IsPlace}
-use Rattle.hv_exact.proofs.Beginnings.{level_begins, some_block}
-use Rattle.hv_exact.proofs.TypeRules.{type_exact}
-use Rattle.hv_exact.proofs.StepRules.{place_exact, call_exact, placed_block_exact, block_exact}
-use Rattle.hv_exact.proofs.LevelRules.{disjunction_exact}
-use Rattle.hv_exact.proofs.Parts.{Parts}
-use Rattle.hv_exact.proofs.StmtLists.{stmts_exact}
-use Rattle.hv_exact.proofs.DeclRules.{decls_exact}
+use Rattle.hv_syn_grammar.specs.Parser.{Read, Got, Off, Deep}
+use Rattle.hv_syn_grammar.specs.Room.{room, one_less, option_then}
+use Rattle.hv_syn_grammar.specs.Expressions.{Inner, disjunction, place, begins_step}
+use Rattle.hv_syn_grammar.specs.Statements.{not_closing, stmts}
+use Rattle.hv_syn_grammar.specs.Declarations.{inner, decls, begins_decl}
+use Rattle.hv_syn_exact.proofs.Exact.{Exact, Sound, Succeeds}
+use Rattle.hv_syn_exact.proofs.Inner.{InnerExact, on_expr, IsPlace}
+use Rattle.hv_syn_exact.proofs.Beginnings.{level_begins, some_block}
+use Rattle.hv_syn_exact.proofs.TypeRules.{type_exact}
+use Rattle.hv_syn_exact.proofs.StepRules.{place_exact, call_exact, placed_block_exact, block_exact}
+use Rattle.hv_syn_exact.proofs.LevelRules.{disjunction_exact}
+use Rattle.hv_syn_exact.proofs.Parts.{Parts}
+use Rattle.hv_syn_exact.proofs.StmtLists.{stmts_exact}
+use Rattle.hv_syn_exact.proofs.DeclRules.{decls_exact}
 
 parts : (d : ℕ) (i : Inner) → InnerExact d i → Parts d i
 parts d i h = record {

@@ -3,10 +3,10 @@ use Rattle.std.proofs.Common.{◌≡◌, ℕ, List, [], ◌∷◌, ◌++◌, ref
 use Rattle.std.specs.Prelude.{codes, decimal}
 use Rattle.std.specs.Fmt.{digits}
 use Rattle.hv_tree.specs.declared.place.Place.{Place}
-use Rattle.hv_copying.specs.declared.end.TrapKind.{TrapKind}
-use Rattle.hv_node.specs.Seen.{root, end_seen, node_seen}
-use Rattle.hv_node.specs.declared.node.End.TheVariants as end
-use Rattle.hv_node.specs.declared.node.TaskNode.{TaskNode}
+use Rattle.hv_sem_copying.specs.declared.end.TrapKind.{TrapKind}
+use Rattle.hv_task_tree.specs.Seen.{root, end_seen, node_seen}
+use Rattle.hv_task_tree.specs.declared.node.End.TheVariants as end
+use Rattle.hv_task_tree.specs.declared.node.TaskNode.{TaskNode}
 use Rattle.hv_report.specs.Lines.{at_place, kind_name, id_text, ending, task_line, task_lines}
 
 root_named : id_text root ≡ codes "0"

@@ -6,9 +6,9 @@ use Rattle.hv_tree.specs.declared.place.Place.{Place}
 use Rattle.hv_tree.specs.declared.refusal.Rule.{Rule}
 use Rattle.hv_tree.specs.declared.refusal.Rule.TheVariants as rule
 use Rattle.hv_tree.specs.declared.refusal.Refusal.{Refusal}
-use Rattle.hv_copying.specs.declared.end.TrapKind.{TrapKind}
-use Rattle.hv_copying.specs.declared.end.TrapKind.TheVariants as trap
-use Rattle.hv_copying.specs.Node.{Id, End, Done, Trapped, SpentAt, Node, NodeOf, Nodes, NoNodes, NodeAnd, end_of, output_of}
+use Rattle.hv_sem_copying.specs.declared.end.TrapKind.{TrapKind}
+use Rattle.hv_sem_copying.specs.declared.end.TrapKind.TheVariants as trap
+use Rattle.hv_sem_copying.specs.Node.{Id, End, Done, Trapped, SpentAt, Node, NodeOf, Nodes, NoNodes, NodeAnd, end_of, output_of}
 
 -- a place as LINE:COLUMN, and what follows it
 abbrev pub at_place : List ℕ → Place → List ℕ → List ℕ

@@ -1,9 +1,9 @@
 ghost use Rattle.std.specs.Prelude.{◌≡◌, ◌<◌, length, IfOk, string_bytes};
-ghost use Rattle.hv_node.specs.Seen.{end_seen, node_seen};
+ghost use Rattle.hv_task_tree.specs.Seen.{end_seen, node_seen};
 ghost use Rattle.hv_report.specs.Lines as spec;
 
-use hv_copying::TrapKind;
-use hv_node::{End, TaskNode};
+use hv_sem_copying::TrapKind;
+use hv_task_tree::{End, TaskNode};
 use hv_tree::line_col;
 use std::alloc::{AllocError, Global};
 

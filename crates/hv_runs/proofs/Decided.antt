@@ -7,7 +7,7 @@ use Rattle.hv_decls.specs.Locals.{listed, CoreBody}
 use Rattle.hv_decls.specs.Sites.{Part, ExprPart, CallPart, PlacePart, StmtPart, TestPart, Scope, body_by}
 use Rattle.hv_type_rules.specs.Names.{param_type, field_type, types_of}
 use Rattle.hv_lemmas.proofs.Members.{Among, in_left, in_right, either_in}
-use Rattle.hv_safe.specs.Runs.{OnlyReads, AllRead, PartRuns, Returns}
+use Rattle.hv_law_safe.specs.Runs.{OnlyReads, AllRead, PartRuns, Returns}
 use Rattle.hv_runs.specs.Walked as spec
 use Rattle.hv_runs.proofs.Sited.{part_alone}
 

@@ -5,7 +5,7 @@ use Rattle.hv_decls.specs.Locals.{CoreBody, fun_body}
 use Rattle.hv_decls.specs.Sites.{Site, body_scope, body_by, sites_of_body, decl_sites, lambdas_at, decl_bodies, sites_of, bodies_of}
 use Rattle.hv_type_rules.specs.Names.{types_of_decl, types_of}
 use Rattle.hv_lemmas.proofs.Members.{Among, in_left, in_right, either_in, listed, contained}
-use Rattle.hv_safe.specs.Runs.{PartRuns, Returns, Runs}
+use Rattle.hv_law_safe.specs.Runs.{PartRuns, Returns, Runs}
 use Rattle.hv_runs.specs.Walked as spec
 use Rattle.hv_runs.proofs.Sited.{part_alone, sites_run, block_same}
 use Rattle.hv_runs.proofs.Decided.{both, pair, EachLet, EachReads, Header, Fits, fields_sound, fields_whole, header_sound, header_whole, part_sound, part_whole}

@@ -18,7 +18,7 @@ use Rattle.hv_tree.specs.declared.ast.StmtKind.{StmtKind, out-StmtKind}
 use Rattle.hv_tree.specs.declared.ast.Arg.TheOpen.{Arg-F, ExprKind-F, Step-F, StmtKind-F}
 use Rattle.hv_tree.specs.Core as core
 use Rattle.hv_tree.proofs.CoreLemmas as lemmas
-use Rattle.hv_safe.specs.Runs as ends
+use Rattle.hv_law_safe.specs.Runs as ends
 use Rattle.hv_runs.specs.Walked as spec
 use Rattle.hv_runs.specs.Parts as parts
 

@@ -1,7 +1,7 @@
 // How a body ends.
 ghost use Rattle.std.specs.Prelude.{◌≡◌, map};
 ghost use Rattle.hv_tree.specs.Core.{core_block, core_stmt, core_stmts, core_param, core_option_ty};
-ghost use Rattle.hv_safe.specs.Runs.{gives_back, ends_in_return};
+ghost use Rattle.hv_law_safe.specs.Runs.{gives_back, ends_in_return};
 ghost use Rattle.hv_runs.specs.Walked as spec;
 
 use crate::types::{option_ty_reads, params_read};

@@ -1,6 +1,6 @@
 ghost use Rattle.std.specs.Prelude.{◌≡◌, ◌↔◌, IsTrue, map};
 ghost use Rattle.hv_tree.specs.Core.{core_decl, core_tree};
-ghost use Rattle.hv_safe.specs.Runs.{Runs};
+ghost use Rattle.hv_law_safe.specs.Runs.{Runs};
 ghost use Rattle.hv_runs.specs.Walked as spec;
 
 use crate::types::fields_read;

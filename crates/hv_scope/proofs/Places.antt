@@ -14,7 +14,7 @@ use Rattle.hv_tree.specs.declared.ast.StructDecl.{StructDecl}
 use Rattle.hv_tree.specs.Core.{core_ty, core_field, core_decl}
 use Rattle.hv_decls.specs.Types.{FieldAt, meant, struct_in, fun_in, field_from, fields_or_none}
 use Rattle.hv_decls.specs.Locals.{number_from, number_in, local_in}
-use Rattle.hv_texts.specs.Texts.{index_from, index_of}
+use Rattle.hv_symbols.specs.Texts.{index_from, index_of}
 use Rattle.hv_scope.specs.declared.known.Known.{Known}
 use Rattle.hv_scope.specs.Known.{local_by, text_of, option_local, core_struct, option_struct, core_fun, option_function}
 use Rattle.hv_scope.specs.Tops.{struct_decls, fun_decls, structs_in, struct_from, struct_number, name_of_struct, name_of_fun, field_text, field_texts, fields_of, first_by}

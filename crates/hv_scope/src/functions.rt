@@ -4,7 +4,7 @@ ghost use Rattle.std.specs.Option.{option_copied};
 ghost use Rattle.hv_scope.specs.Tops.{fun_decls, first_by, name_of_fun};
 
 use hv_items::Items;
-use hv_texts::Texts;
+use hv_symbols::Texts;
 use hv_tree::{Decl, FunDecl};
 use std::alloc::{AllocError as NoMemory, Global};
 use std::marker::Model;

@@ -4,7 +4,7 @@ ghost use Rattle.hv_scope.specs.Known.{found_number, found_local, local_by};
 
 use crate::known::Known;
 use hv_items::Items;
-use hv_texts::Texts;
+use hv_symbols::Texts;
 use std::alloc::{AllocError as NoMemory, Global};
 use std::marker::Model;
 

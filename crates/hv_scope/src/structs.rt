@@ -2,13 +2,13 @@ ghost use Rattle.std.specs.Prelude.{◌≡◌, ◌++◌, ◌∷◌, [], map, IfO
 ghost use Rattle.std.specs.Option.{option_copied};
 ghost use Rattle.hv_tree.specs.Core.{core_field};
 ghost use Rattle.hv_decls.specs.Types.{field_from};
-ghost use Rattle.hv_texts.specs.Texts.{index_of};
+ghost use Rattle.hv_symbols.specs.Texts.{index_of};
 ghost use Rattle.hv_scope.specs.Known.{field_found};
 ghost use Rattle.hv_scope.specs.Tops.{field_text, fields_at, name_of_struct, struct_decls};
 ghost use Rattle.std.specs.List.{slice_get};
 
 use hv_items::Items;
-use hv_texts::Texts;
+use hv_symbols::Texts;
 use hv_tree::{Decl, Field, StructDecl, Ty};
 use std::alloc::{AllocError as NoMemory, Global};
 use std::marker::Model;

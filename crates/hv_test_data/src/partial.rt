@@ -1,6 +1,6 @@
 ghost use Rattle.std.specs.Prelude.{◌≡◌, [], ◌∷◌, IfOk};
 
-use hv_held::{
+use hv_partial::{
     Computed, Held, Length, Link, Way, binary, copy, emptied, equal, filled, get, is_whole,
     length_of, length_to_fill, of_value, put, size, take_out, text, to_value, unary, walk,
 };

@@ -1,4 +1,4 @@
-use hv_texts::Texts;
+use hv_symbols::Texts;
 use std::test::Fail;
 
 #[test]

@@ -1,7 +1,7 @@
-use hv_copying::TrapKind;
-use hv_held::Held;
+use hv_sem_copying::TrapKind;
+use hv_partial::Held;
 use hv_items::Items;
-use hv_node::{End, TaskNode};
+use hv_task_tree::{End, TaskNode};
 use hv_report::{refusal_text, report};
 use hv_tree::{Place, Refusal, Rule};
 use std::alloc::{AllocError as NoMemory, Global};

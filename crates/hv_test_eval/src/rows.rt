@@ -1,7 +1,7 @@
 // What programs do: in a source `@` stands before the place of its trap, and `^` before the place at which a run with one
 // step less than it uses is spent. Then its whole report, and what the shorter run has printed.
 use crate::running::run;
-use hv_node::End;
+use hv_task_tree::End;
 use std::alloc::{AllocError as NoMemory, Global};
 use std::sync::Wait;
 use std::test::Fail;

@@ -1,7 +1,7 @@
-use hv_copying::TrapKind;
-use hv_held::{Held, Link};
+use hv_sem_copying::TrapKind;
+use hv_partial::{Held, Link};
 use hv_items::Items;
-use hv_state::{
+use hv_eval_state::{
     Access, Halt, Mode, Spot, Task, binary, close_all, copy_there, decides, look, number, open,
     pay, pay_size, print, put_there, set_local, take_there, truth, unary,
 };

@@ -1,4 +1,4 @@
-use hv_plan::{FlowOp, plans};
+use hv_flow_plan::{FlowOp, plans};
 use hv_rules::FlowEvent;
 use hv_tree::{Block, Conv, Decl, Expr, Name, Operator, Param, Place, Tree, builders as build};
 use std::alloc::{AllocError as NoMemory, Global};

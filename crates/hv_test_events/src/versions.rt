@@ -1,4 +1,4 @@
-use hv_versions::{Cell, Versions};
+use hv_flow_versions::{Cell, Versions};
 use std::alloc::{AllocError as NoMemory, Global};
 use std::test::Fail;
 

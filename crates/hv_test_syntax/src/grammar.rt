@@ -1,4 +1,4 @@
-use hv_grammar::Cursor;
+use hv_syn_grammar::Cursor;
 use hv_tree::{Place, Text, Token, TokenKind};
 use std::test::Fail;
 

@@ -1,5 +1,5 @@
 use hv_items::Items;
-use hv_names::names;
+use hv_type_names::names;
 use hv_tree::builders::{
     block, decl_fun, decl_struct, expr, expr_kind_int, expr_kind_lambda, expr_kind_path, field,
     fun_decl, name, param, place_expr, stmt, stmt_kind_block, stmt_kind_print, stmt_kind_var,

@@ -5,8 +5,8 @@ use Rattle.hv_tree.specs.declared.types.Ty.TheOpen.{Ty-F}
 use Rattle.hv_tree.specs.Core.{Core}
 use Rattle.hv_decls.specs.Types.{ParamTypes, fun_type, ValueType}
 use Rattle.hv_scope.specs.Tops.{struct_number}
-use Rattle.hv_typing.specs.Held.{ty_by}
-use Rattle.hv_typing.proofs.Opened.{shape_of, shape_opened}
+use Rattle.hv_type_synth.specs.Held.{ty_by}
+use Rattle.hv_type_synth.proofs.Opened.{shape_of, shape_opened}
 use Rattle.hv_types.specs.declared.fields.FieldType.{FieldType}
 use Rattle.hv_types.specs.declared.fields.FieldBase.TheVariants as base
 use Rattle.hv_types.specs.Table as table

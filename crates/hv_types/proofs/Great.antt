@@ -7,8 +7,8 @@ use Rattle.hv_decls.specs.Types.{StructType, within, leaves_of, most_depth, most
 use Rattle.hv_tree.specs.Earlier.{IsFirst}
 use Rattle.hv_rules.specs.Accepted.{NamePhase, TypePhase, IsFirstOf, IsViolatedInPhase}
 use Rattle.hv_scope.specs.Tops.{structs_in, struct_number}
-use Rattle.hv_judge.specs.Judged as judged
-use Rattle.hv_judge.proofs.Program.{types_first}
+use Rattle.hv_type_judge.specs.Judged as judged
+use Rattle.hv_type_judge.proofs.Program.{types_first}
 use Rattle.hv_types.specs.declared.fields.FieldType.{FieldType}
 use Rattle.hv_types.specs.Table.{table_of, by_number}
 use Rattle.hv_types.specs.Rounds as rounds

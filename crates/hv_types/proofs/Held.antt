@@ -8,7 +8,7 @@ use Rattle.hv_tree.specs.Core.{Core, CoreStruct}
 use Rattle.hv_decls.specs.Types.{ValueType, IntType, BoolType, StructType, ArrayType, FunType, FunToType, type_of_field, field_types, fields_or_none, struct_in}
 use Rattle.hv_type_rules.specs.TypeRules.{HoldsFunction, is_fun, is_fun_to, in_element, in_field}
 use Rattle.hv_scope.specs.Tops.{structs_in, struct_number}
-use Rattle.hv_texts.specs.Texts.{index_from, index_of, has}
+use Rattle.hv_symbols.specs.Texts.{index_from, index_of, has}
 use Rattle.hv_types.specs.declared.fields.FieldType.{FieldType}
 use Rattle.hv_types.specs.declared.fields.FieldBase.{FieldBase}
 use Rattle.hv_types.specs.declared.fields.FieldBase.TheVariants as base

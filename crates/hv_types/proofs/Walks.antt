@@ -29,7 +29,7 @@ use Rattle.hv_decls.specs.Sites.{Scope, Site, ExprPart, StmtPart, CallPart, Plac
 use Rattle.hv_scope.specs.declared.known.Known.{Known}
 use Rattle.hv_scope.specs.Known.{local_by, core_fun}
 use Rattle.hv_lemmas.proofs.Lists.{first_left}
-use Rattle.hv_judge.specs.Judged as spec
+use Rattle.hv_type_judge.specs.Judged as spec
 use Rattle.hv_types.specs.declared.here.Program.{Program}
 use Rattle.hv_types.specs.Walked as walked
 

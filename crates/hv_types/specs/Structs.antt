@@ -7,8 +7,8 @@ use Rattle.hv_tree.specs.Core.{Core, CoreStruct}
 use Rattle.hv_decls.specs.Types.{StructType, most_depth, most_leaves}
 use Rattle.hv_type_rules.specs.TypeRules.{HoldsFunction}
 use Rattle.hv_scope.specs.Tops.{structs_in, struct_number}
-use Rattle.hv_texts.specs.Texts.{has}
-use Rattle.hv_judge.specs.Judged.{only, refusal, all_judged}
+use Rattle.hv_symbols.specs.Texts.{has}
+use Rattle.hv_type_judge.specs.Judged.{only, refusal, all_judged}
 use Rattle.hv_types.specs.Depths.{settled}
 
 -- ---- structs that have functions in them

@@ -22,7 +22,7 @@ use Rattle.hv_decls.specs.Sites as sites
 use Rattle.hv_decls.specs.Sites.{Scope, Site, TestPart, PlacePart, site}
 use Rattle.hv_scope.specs.declared.known.Known.{Known}
 use Rattle.hv_scope.specs.Known.{local_by, core_fun}
-use Rattle.hv_judge.specs.Judged as spec
+use Rattle.hv_type_judge.specs.Judged as spec
 use Rattle.hv_decls.specs.Types.{BoolType}
 use Rattle.hv_types.specs.declared.here.Program.{Program}
 

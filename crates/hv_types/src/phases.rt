@@ -3,7 +3,7 @@ ghost use Rattle.hv_tree.specs.Core.{core_tree, core_decl};
 ghost use Rattle.hv_tree.specs.Earlier.{IsFirst};
 ghost use Rattle.hv_decls.specs.Sites.{decl_sites};
 ghost use Rattle.hv_rules.specs.Accepted.{NamePhase, TypePhase, IsFirstOf, IsViolatedInPhase};
-ghost use Rattle.hv_judge.specs.Judged.{sites_judged, struct_t4};
+ghost use Rattle.hv_type_judge.specs.Judged.{sites_judged, struct_t4};
 ghost use Rattle.hv_types.specs.Table.{table_of};
 ghost use Rattle.hv_types.specs.Structs as spec;
 
@@ -15,10 +15,10 @@ use crate::holders::holders;
 use crate::rounds::depths;
 use crate::structs::{judge_structs, names_of};
 use hv_items::Items;
-use hv_names::names;
+use hv_type_names::names;
 use hv_tree::{Decl, Refusal, Tree, first};
 use hv_scope::Declared;
-use hv_texts::Texts;
+use hv_symbols::Texts;
 use std::alloc::{AllocError as NoMemory, Global};
 
 // The names of the structs whose values have function values in them.
@@ -93,7 +93,7 @@ fn types(alloc: Global, tree: &Tree) -> Result<Option<Refusal>, NoMemory>
 }
 
 /// The first violation of the rules of names, else that of the rules of types.
-#[tactic(auto, using(hv_judge::proofs::Program::named_first, crate::proofs::Great::typed_first))]
+#[tactic(auto, using(hv_type_judge::proofs::Program::named_first, crate::proofs::Great::typed_first))]
 pub fn names_and_types(alloc: Global, tree: &Tree) -> Result<Option<Refusal>, NoMemory>
     ensures first { IfOk result (IsFirstOf (NamePhase ∷ TypePhase ∷ []) (core_tree tree.now)) }
 {

@@ -11,7 +11,7 @@ use crate::counts::{MOST_LEAVES, count_at};
 use crate::fields::MOST_DEPTH;
 use crate::rounds::{number_at, settled};
 use hv_scope::Declared;
-use hv_texts::Texts;
+use hv_symbols::Texts;
 use hv_tree::{Refusal, Rule, StructDecl};
 use std::alloc::{AllocError as NoMemory, Global};
 

@@ -1,7 +1,7 @@
 use Rattle.std.proofs.Common.{◌≡◌, drop}
 use Rattle.hv_tree.specs.Core.{core_tys_of}
 use Rattle.hv_decls.specs.Types.{convs_of, params_meant}
-use Rattle.hv_plan.specs.Scopes.{param_types}
+use Rattle.hv_flow_plan.specs.Scopes.{param_types}
 use Rattle.hv_await.specs.Changing as spec
 use Rattle.hv_await.proofs.callee.types_change.Given as goal
 

@@ -6,7 +6,7 @@ use Rattle.hv_decls.specs.Locals.{listed}
 use Rattle.hv_scope.specs.Bodies.{body_by}
 use Rattle.hv_await.specs.Changing.{body_changes}
 use Rattle.hv_await.specs.Found.{InBody}
-use Rattle.hv_ends.specs.Words.{words}
+use Rattle.hv_flow_ends.specs.Words.{words}
 use Rattle.hv_await.specs.Acts.{left_acts}
 use Rattle.hv_await.specs.Ops.{again_ops}
 use Rattle.hv_await.proofs.Handles.{left_first, again_first}

@@ -1,5 +1,5 @@
 use Rattle.std.proofs.Common.{◌≡◌, ◌++◌, drop}
-use Rattle.hv_ends.specs.Words.{words}
+use Rattle.hv_flow_ends.specs.Words.{words}
 use Rattle.hv_await.specs.Acts.{left_acts}
 use Rattle.hv_await.proofs.ops.left_ops.Given as goal
 

@@ -1,7 +1,7 @@
 use Rattle.std.proofs.Common.{refl}
 use Rattle.hv_tree.specs.Core.{core_tree}
-use Rattle.hv_safe.specs.Runs.{Runs}
-use Rattle.hv_node.specs.Seen.{node_seen}
+use Rattle.hv_law_safe.specs.Runs.{Runs}
+use Rattle.hv_task_tree.specs.Seen.{node_seen}
 use Rattle.hv_driver.specs.Answer.{unready, ran}
 use Rattle.hv_driver.proofs.Ends.{not_runs, does_run}
 use Rattle.hv_driver.proofs.answer.run.Goals as goal

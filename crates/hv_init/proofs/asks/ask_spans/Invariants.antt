@@ -1,5 +1,5 @@
 use Rattle.std.proofs.Common.{◌≡◌, ◌++◌, map, drop}
-use Rattle.hv_layout.specs.Laid.{laid}
+use Rattle.hv_init_layout.specs.Laid.{laid}
 use Rattle.hv_init.specs.Words.{span_asked}
 use Rattle.hv_init.proofs.asks.ask_spans.Given as goal
 

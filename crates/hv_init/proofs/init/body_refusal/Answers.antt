@@ -1,7 +1,7 @@
 use Rattle.std.proofs.Common.{[], None, drop, ap, ◌∙◌}
 use Rattle.hv_tree.specs.Core.{core_tree}
 use Rattle.hv_scope.specs.Bodies.{body_by}
-use Rattle.hv_layout.specs.Laid.{laid}
+use Rattle.hv_init_layout.specs.Laid.{laid}
 use Rattle.hv_init.specs.Words.{init_words}
 use Rattle.hv_init.proofs.Told.{body_first}
 use Rattle.hv_init.proofs.init.body_refusal.Goals as goal

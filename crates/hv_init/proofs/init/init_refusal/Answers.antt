@@ -4,8 +4,8 @@ use Rattle.hv_tree.specs.Core.{core_tree}
 use Rattle.hv_tree.specs.Earlier.{IsFirst}
 use Rattle.hv_decls.specs.Locals.{CoreBody}
 use Rattle.hv_scope.specs.Bodies.{body_by}
-use Rattle.hv_init_law.specs.Law.{IsViolatedAmong}
-use Rattle.hv_init_law.proofs.Phase.{program_first}
+use Rattle.hv_init_cells.specs.Law.{IsViolatedAmong}
+use Rattle.hv_init_cells.proofs.Phase.{program_first}
 use Rattle.hv_init.proofs.init.init_refusal.Goals as goal
 
 pub returns : goal.returns

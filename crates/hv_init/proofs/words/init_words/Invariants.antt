@@ -1,5 +1,5 @@
 use Rattle.std.proofs.Common.{◌≡◌, ◌++◌, [], None, length}
-use Rattle.hv_layout.specs.Laid.{laid}
+use Rattle.hv_init_layout.specs.Laid.{laid}
 use Rattle.hv_init.specs.Words.{init_words}
 use Rattle.hv_init.proofs.words.init_words.Given as goal
 

@@ -1,6 +1,6 @@
 use Rattle.std.proofs.Common.{sym, ◌∙◌}
-use Rattle.hv_grammar.specs.Declarations.{one_decl, begins_decl}
-use Rattle.hv_grammar.proofs.Loops.{turn_more}
+use Rattle.hv_syn_grammar.specs.Declarations.{one_decl, begins_decl}
+use Rattle.hv_syn_grammar.proofs.Loops.{turn_more}
 use Rattle.hv_parse.proofs.declarations.decls.Goals as goal
 
 pub loop-turn-preserved : goal.loop-turn-preserved

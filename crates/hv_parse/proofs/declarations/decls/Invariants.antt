@@ -1,6 +1,6 @@
 use Rattle.std.proofs.Common.{◌≡◌, ◌-◌, ◌++◌}
-use Rattle.hv_grammar.specs.Parser.{many_within, read_then, done}
-use Rattle.hv_grammar.specs.Declarations.{decls, one_decl, begins_decl}
+use Rattle.hv_syn_grammar.specs.Parser.{many_within, read_then, done}
+use Rattle.hv_syn_grammar.specs.Declarations.{decls, one_decl, begins_decl}
 use Rattle.hv_parse.proofs.declarations.decls.Given as goal
 
 abbrev pub invariant-loop-turn : goal.invariant-loop-turn

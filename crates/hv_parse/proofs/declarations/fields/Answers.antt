@@ -1,8 +1,8 @@
 use Rattle.std.proofs.Common.{sym, ◌∙◌}
 use Rattle.std.specs.Prelude.{codes}
-use Rattle.hv_grammar.specs.Lexemes.{is_keyword}
-use Rattle.hv_grammar.specs.Declarations.{field}
-use Rattle.hv_grammar.proofs.Loops.{turn_more}
+use Rattle.hv_syn_grammar.specs.Lexemes.{is_keyword}
+use Rattle.hv_syn_grammar.specs.Declarations.{field}
+use Rattle.hv_syn_grammar.proofs.Loops.{turn_more}
 use Rattle.hv_parse.proofs.declarations.fields.Goals as goal
 
 pub loop-turn-preserved : goal.loop-turn-preserved

@@ -1,8 +1,8 @@
 use Rattle.std.proofs.Common.{◌≡◌, ◌-◌, ◌++◌}
 use Rattle.std.specs.Prelude.{codes}
-use Rattle.hv_grammar.specs.Parser.{many_within, read_then, done}
-use Rattle.hv_grammar.specs.Lexemes.{is_keyword}
-use Rattle.hv_grammar.specs.Declarations.{fields, field}
+use Rattle.hv_syn_grammar.specs.Parser.{many_within, read_then, done}
+use Rattle.hv_syn_grammar.specs.Lexemes.{is_keyword}
+use Rattle.hv_syn_grammar.specs.Declarations.{fields, field}
 use Rattle.hv_parse.proofs.declarations.fields.Given as goal
 
 abbrev pub invariant-loop-turn : goal.invariant-loop-turn

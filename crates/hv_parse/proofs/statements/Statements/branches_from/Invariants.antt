@@ -1,6 +1,6 @@
 use Rattle.std.proofs.Common.{◌≡◌, ◌-◌}
-use Rattle.hv_grammar.specs.Declarations.{inner}
-use Rattle.hv_grammar.specs.Statements.{else_parts, else_part}
+use Rattle.hv_syn_grammar.specs.Declarations.{inner}
+use Rattle.hv_syn_grammar.specs.Statements.{else_parts, else_part}
 use Rattle.hv_parse.specs.Parts.{parts_after}
 use Rattle.hv_parse.proofs.ElseTurns.{parts_left}
 use Rattle.hv_parse.proofs.statements.Statements.branches_from.Given as goal

@@ -1,4 +1,4 @@
-use Rattle.hv_grammar.specs.Declarations.{inner}
+use Rattle.hv_syn_grammar.specs.Declarations.{inner}
 use Rattle.hv_parse.proofs.ItemTurns.{added}
 use Rattle.hv_parse.proofs.statements.Statements.other_more.Goals as goal
 

@@ -1,6 +1,6 @@
 use Rattle.std.proofs.Common.{sym, ◌∙◌}
-use Rattle.hv_grammar.specs.Declarations.{inner}
-use Rattle.hv_grammar.specs.Statements as spec
+use Rattle.hv_syn_grammar.specs.Declarations.{inner}
+use Rattle.hv_syn_grammar.specs.Statements as spec
 use Rattle.hv_parse.proofs.ItemTurns.{items_more}
 use Rattle.hv_parse.proofs.statements.Statements.stmts.Goals as goal
 

@@ -1,6 +1,6 @@
 use Rattle.std.proofs.Common.{◌≡◌, ◌-◌}
-use Rattle.hv_grammar.specs.Declarations.{inner}
-use Rattle.hv_grammar.specs.Statements.{stmts, item}
+use Rattle.hv_syn_grammar.specs.Declarations.{inner}
+use Rattle.hv_syn_grammar.specs.Statements.{stmts, item}
 use Rattle.hv_parse.proofs.ItemTurns.{items_left}
 use Rattle.hv_parse.proofs.statements.Statements.stmts.Given as goal
 

@@ -1,5 +1,0 @@
-use Rattle.hv_copying.proofs.GoingOn.{within}
-use Rattle.hv_copying.proofs.law.budgets_are_kept.Goals as goal
-
-pub returns : goal.returns
-returns c = within

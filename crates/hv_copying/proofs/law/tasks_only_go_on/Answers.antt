@@ -1,5 +1,0 @@
-use Rattle.hv_copying.proofs.GoingOn.{goes_on}
-use Rattle.hv_copying.proofs.law.tasks_only_go_on.Goals as goal
-
-pub returns : goal.returns
-returns c = goes_on

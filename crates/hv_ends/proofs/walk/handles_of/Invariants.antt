@@ -1,7 +1,0 @@
-use Rattle.std.proofs.Common.{◌≡◌, ◌++◌, drop}
-use Rattle.hv_ends.specs.Ends.{numbers_in}
-use Rattle.hv_ends.specs.Walked as spec
-use Rattle.hv_ends.proofs.walk.handles_of.Given as goal
-
-abbrev pub invariant-loop-opened : goal.invariant-loop-opened
-invariant-loop-opened l = numbers_in l.all ++ spec.handles_in (drop l.opened-index l.around) ≡ spec.handles_in l.around

@@ -1,0 +1,13 @@
+// What a body is entered with.
+
+use hv_partial::Held;
+use hv_eval_state::Mode;
+
+/// What a body is entered with.
+#[derive(Drop)]
+pub enum Passed {
+    /// Its own, with what the body may do with it.
+    Value(Mode, Held),
+    /// A reference of the caller, by its number.
+    Lent(usize),
+}

@@ -1,5 +1,0 @@
-use Rattle.hv_flat.proofs.Programs.{node_same}
-use Rattle.hv_flat.proofs.law.flat_is_copying.Goals as goal
-
-pub returns : goal.returns
-returns c = node_same

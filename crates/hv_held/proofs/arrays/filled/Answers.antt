@@ -1,6 +1,0 @@
-use Rattle.std.proofs.Common.{rules}
-use Rattle.hv_held.proofs.VariantLemmas.{filled_held}
-use Rattle.hv_held.proofs.arrays.filled.Goals as goal
-
-pub returns : goal.returns
-returns c = filled_held c.args.n c.args.held.now _ (search rules)

@@ -1,6 +1,0 @@
-use Rattle.std.proofs.Common.{Some, ap, sym, ◌∙◌}
-use Rattle.hv_held.proofs.VariantLemmas.{length_held}
-use Rattle.hv_held.proofs.arrays.length_of.Goals as goal
-
-pub returns-in-Array : goal.returns-in-Array
-returns-in-Array c = ap Some c.len.ensures ∙ sym (length_held _ _ c.in-Array.is)

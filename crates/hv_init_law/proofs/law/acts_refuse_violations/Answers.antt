@@ -1,5 +1,0 @@
-use Rattle.hv_init_law.proofs.Refusing.{both}
-use Rattle.hv_init_law.proofs.law.acts_refuse_violations.Goals as goal
-
-pub returns : goal.returns
-returns c = λ tree body l fit. both tree body l fit

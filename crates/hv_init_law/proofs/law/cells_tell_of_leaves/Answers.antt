@@ -1,5 +1,0 @@
-use Rattle.hv_init_law.proofs.Telling.{tells}
-use Rattle.hv_init_law.proofs.law.cells_tell_of_leaves.Goals as goal
-
-pub returns : goal.returns
-returns c = λ tree body l fit. tells tree body l fit

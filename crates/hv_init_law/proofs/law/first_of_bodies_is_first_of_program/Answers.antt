@@ -1,5 +1,0 @@
-use Rattle.hv_init_law.proofs.Phase.{program_first}
-use Rattle.hv_init_law.proofs.law.first_of_bodies_is_first_of_program.Goals as goal
-
-pub returns : goal.returns
-returns c = λ tree v. program_first tree v

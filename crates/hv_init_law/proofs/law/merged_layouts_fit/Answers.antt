@@ -1,5 +1,0 @@
-use Rattle.hv_init_law.proofs.Ranks.{merged_fits}
-use Rattle.hv_init_law.proofs.law.merged_layouts_fit.Goals as goal
-
-pub returns : goal.returns
-returns c = λ tree body cut cuts. merged_fits tree body cut cuts

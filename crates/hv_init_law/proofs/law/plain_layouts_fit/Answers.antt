@@ -1,5 +1,0 @@
-use Rattle.hv_init_law.proofs.PlainFits.{plain_fits}
-use Rattle.hv_init_law.proofs.law.plain_layouts_fit.Goals as goal
-
-pub returns : goal.returns
-returns c = λ tree body. plain_fits tree body

@@ -1,6 +1,0 @@
-use Rattle.std.proofs.Common.{◌≡◌, ◌++◌, drop}
-use Rattle.hv_judge.specs.Seen as seen
-use Rattle.hv_judge.proofs.names.check_captured.Given as goal
-
-abbrev pub invariant-loop-name : goal.invariant-loop-name
-invariant-loop-name l = l.found.items ++ seen.capture_t9 l.around (drop l.name-index l.captures) ≡ l.fn.found.items ++ seen.capture_t9 l.around l.captures

@@ -1,4 +1,0 @@
-use Rattle.hv_level.proofs.parts.Parts.body.Goals as goal
-
-pub returns : goal.returns
-returns g c = c.requires.gives _ _ _ _ c.body.ensures

@@ -1,8 +1,0 @@
-use Rattle.std.proofs.Common.{◌≡◌, drop}
-use Rattle.hv_held.specs.HeldTree.{held_tree}
-use Rattle.hv_state.specs.Gives.{from}
-use Rattle.hv_operands.specs.Operands.{chained_in}
-use Rattle.hv_operands.proofs.chains.chained.Given as goal
-
-abbrev pub invariant-loop-link : goal.invariant-loop-link
-invariant-loop-link g l = from (chained_in l.parts.level l.links (held_tree l.fn.first)) l.used l.fn.task ≡ from (chained_in l.parts.level (drop l.link-index l.links) (held_tree l.held)) l.used l.task

@@ -1,5 +1,0 @@
-use Rattle.hv_places.proofs.EndsFit.{bodies_apart}
-use Rattle.hv_places.proofs.law.bodies_end_apart.Goals as goal
-
-pub returns : goal.returns
-returns c = bodies_apart

@@ -1,6 +1,0 @@
--- handed on: the copying meaning and its nodes
-pub use Rattle.hv_copying.specs.Copying
-pub use Rattle.hv_copying.specs.Evaluate
-pub use Rattle.hv_copying.specs.Meaning
-pub use Rattle.hv_copying.specs.Node
-pub mod Kinds

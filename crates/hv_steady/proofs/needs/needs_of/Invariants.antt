@@ -1,6 +1,0 @@
-use Rattle.std.proofs.Common.{◌≡◌, map, take}
-use Rattle.hv_steady.specs.Standings.{needs}
-use Rattle.hv_steady.proofs.needs.needs_of.Given as goal
-
-abbrev pub invariant-loop-standing : goal.invariant-loop-standing
-invariant-loop-standing l = l.flags ≡ map needs (take l.standing-index l.all)

@@ -1,0 +1,7 @@
+use Rattle.std.proofs.Common.{◌≡◌, ◌++◌, drop}
+use Rattle.hv_type_synth.specs.Held.{wants_by}
+use Rattle.hv_type_judge.specs.Seen as seen
+use Rattle.hv_type_judge.proofs.calls.check_marks.Given as goal
+
+abbrev pub invariant-loop-arg : goal.invariant-loop-arg
+invariant-loop-arg l = l.found.items ++ seen.mark_t5 l.around (wants_by l.left) (drop l.arg-index l.args) ≡ l.fn.found.items ++ seen.mark_t5 l.around (wants_by l.wants) l.args

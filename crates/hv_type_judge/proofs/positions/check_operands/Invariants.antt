@@ -1,0 +1,6 @@
+use Rattle.std.proofs.Common.{◌≡◌, ◌++◌, drop}
+use Rattle.hv_type_judge.specs.Seen as seen
+use Rattle.hv_type_judge.proofs.positions.check_operands.Given as goal
+
+abbrev pub invariant-loop-operator : goal.invariant-loop-operator
+invariant-loop-operator l = l.found.items ++ seen.operand_t1 l.around l.left (drop l.operator-index l.links) ≡ l.fn.found.items ++ seen.operand_t1 l.around l.fn.first l.links

@@ -1,6 +1,0 @@
-use Rattle.std.proofs.Common.{◌≡◌, replicate}
-use Rattle.hv_versions.specs.Histories.{first_history}
-use Rattle.hv_versions.proofs.histories.start.Given as goal
-
-abbrev pub invariant-loop-k : goal.invariant-loop-k
-invariant-loop-k l = l.all.items ≡ replicate l._k first_history
