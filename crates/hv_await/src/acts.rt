@@ -3,8 +3,8 @@ ghost use Rattle.std.specs.Prelude.{◌≡◌, map, IfOk};
 ghost use Rattle.hv_await.specs.Acts as spec;
 
 use hv_flow_ends::{End, Span, is_end};
-use hv_items::Items;
 use hv_flow_pass::{Act, Range};
+use hv_items::Items;
 use hv_rules::FlowEvent;
 use hv_tree::{Place, Refusal, Rule};
 use std::alloc::{AllocError as NoMemory, Global};

@@ -17,10 +17,10 @@ ghost use Rattle.hv_await.specs.Ops as spec;
 use crate::changing::judge_changes;
 use crate::ops::{again_ops, left_ops};
 use hv_flow_ends::{End, ends_of, without_entry};
-use hv_tree::{Refusal, Tree, first};
 use hv_flow_pass::first_refusal;
 use hv_flow_plan::{FlowOp, plan_of_body};
 use hv_scope::{Body, Declared, bodies_of};
+use hv_tree::{Refusal, Tree, first};
 use std::alloc::{AllocError as NoMemory, Global};
 
 fn first_left(alloc: Global, ops: &[FlowOp], ends: &[End]) -> Result<Option<Refusal>, NoMemory>

@@ -6,9 +6,9 @@ ghost use Rattle.hv_await.specs.Ops as spec;
 
 use crate::acts::{again_acts, left_acts};
 use hv_flow_ends::{End, ends_behind};
-use hv_items::Items;
 use hv_flow_pass::PassOp;
 use hv_flow_plan::FlowOp;
+use hv_items::Items;
 use std::alloc::{AllocError as NoMemory, Global};
 
 fn left_op(alloc: Global, op: &FlowOp, to_come: &[End]) -> Result<PassOp, NoMemory>

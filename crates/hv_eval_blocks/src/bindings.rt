@@ -10,10 +10,10 @@ ghost use Rattle.hv_eval_env.specs.Level.{locals_in};
 ghost use Rattle.hv_eval_blocks.specs.Statements.{went_of};
 
 use crate::ways::Went;
-use hv_partial::Held;
-use hv_items::Items;
 use hv_eval_env::Level;
 use hv_eval_state::{Access, Halt, Mode, Spot, Task, open, put_there};
+use hv_items::Items;
+use hv_partial::Held;
 use hv_tree::Name;
 use std::alloc::Global;
 

@@ -7,9 +7,9 @@ ghost use Rattle.hv_eval_env.specs.Nests.{Evals, Blocks};
 ghost use Rattle.hv_eval_blocks.specs.Statements.{choices_in};
 
 use crate::stmts::Stmts;
-use hv_partial::Held;
 use hv_eval_env::Level;
 use hv_eval_state::{Halt, Task};
+use hv_partial::Held;
 use hv_tree::{Block, Branch, Expr};
 
 impl<

@@ -8,8 +8,8 @@ ghost use Rattle.hv_value.specs.Holes.{fields_or_hole};
 ghost use Rattle.hv_value.specs.ValueTree.{row};
 ghost use Rattle.hv_eval_blocks.specs.Hollows.{hollow_in, hollow_field};
 
-use hv_partial::Held;
 use hv_items::Items;
+use hv_partial::Held;
 use hv_scope::Declared;
 use hv_tree::{Field, Ty};
 use std::alloc::{AllocError as NoMemory, Global};

@@ -10,9 +10,9 @@ ghost use Rattle.hv_eval_blocks.specs.Statements.{turn_of};
 
 use crate::stmts::Stmts;
 use crate::ways::Turn;
-use hv_partial::Held;
 use hv_eval_env::Level;
 use hv_eval_state::{Halt, Task, pay, truth};
+use hv_partial::Held;
 use hv_tree::{Block, Expr, Place};
 
 impl<

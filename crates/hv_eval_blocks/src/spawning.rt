@@ -6,9 +6,9 @@ ghost use Rattle.hv_sem_copying.specs.Calls.{Child};
 ghost use Rattle.hv_eval_state.specs.Gives.{Gives, from, itself, nothing};
 ghost use Rattle.hv_eval_blocks.specs.Spawns.{spawned_in};
 
-use hv_sem_copying::{Cause, TrapKind};
 use hv_eval_env::Level;
 use hv_eval_state::{Halt, Task, pay};
+use hv_sem_copying::{Cause, TrapKind};
 use hv_tree::Place;
 
 // A budget is at least 1.

@@ -20,12 +20,12 @@ use crate::spawning::order;
 use crate::stmts::Stmts;
 use crate::ways::{Went, flowed};
 use hv_eval_calls::{call, child};
-use hv_sem_copying::Cause;
-use hv_partial::Held;
-use hv_items::Items;
 use hv_eval_env::{Level, Parts};
 use hv_eval_operands::{found, place_in};
 use hv_eval_state::{Halt, Mode, Task, number, print, put_there};
+use hv_items::Items;
+use hv_partial::Held;
+use hv_sem_copying::Cause;
 use hv_tree::{Block, Call, Expr, Name, Place, PlaceExpr, Stmt, StmtKind, Ty};
 
 // A variable without a value.

@@ -9,9 +9,9 @@ ghost use Rattle.hv_eval_env.specs.Nests.{Evals, Bodies, Blocks};
 ghost use Rattle.hv_eval_blocks.specs.Statements.{went_of, ended_of, paid_in, statements_in};
 
 use crate::ways::{Ended, Went};
-use hv_partial::Held;
 use hv_eval_env::{Level, Parts};
 use hv_eval_state::{Halt, Task, close_all, pay};
+use hv_partial::Held;
 use hv_tree::{Block, Expr, Stmt};
 use std::alloc::AllocError as NoMemory;
 

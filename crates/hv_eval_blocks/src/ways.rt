@@ -3,8 +3,8 @@
 ghost use Rattle.std.specs.Prelude.{◌≡◌};
 ghost use Rattle.hv_eval_blocks.specs.Statements.{flowed_by};
 
-use hv_partial::Held;
 use hv_eval_state::{Access, Halt};
+use hv_partial::Held;
 
 /// What comes after a statement.
 #[derive(Drop)]

@@ -10,11 +10,11 @@ ghost use Rattle.hv_eval_calls.specs.Calling.{one_in, args_in};
 
 use crate::arguments::argument;
 use crate::given::{Given, take};
-use hv_sem_copying::Cause;
-use hv_partial::Held;
-use hv_items::at;
 use hv_eval_env::{Level, Parts};
 use hv_eval_state::{Halt, Task};
+use hv_items::at;
+use hv_partial::Held;
+use hv_sem_copying::Cause;
 use hv_tree::{Arg, Conv, Expr, Param};
 
 // An argument more.

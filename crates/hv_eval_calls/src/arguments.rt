@@ -17,12 +17,12 @@ ghost use Rattle.hv_eval_calls.specs.Arguments.{argument_by};
 ghost use Rattle.hv_eval_calls.specs.Calling.{emptied_given, argument_in, place_of};
 
 use crate::given::Argument;
-use hv_sem_copying::Cause;
-use hv_partial::{Held, emptied, get};
-use hv_items::at;
 use hv_eval_env::{Level, Parts};
 use hv_eval_operands::{found, place_in};
 use hv_eval_state::{Halt, Mode, Spot, Task, put_there, take_there};
+use hv_items::at;
+use hv_partial::{Held, emptied, get};
+use hv_sem_copying::Cause;
 use hv_tree::{Arg, Conv, Expr, PlaceExpr};
 use std::alloc::{AllocError as NoMemory, Global};
 

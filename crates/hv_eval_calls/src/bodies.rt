@@ -10,11 +10,11 @@ ghost use Rattle.hv_eval_calls.specs.Passes.{passed_by};
 
 use crate::entry::{begin, finish};
 use crate::passed::Passed;
-use hv_sem_copying::TrapKind;
-use hv_partial::Held;
-use hv_items::Items;
 use hv_eval_env::{Level, Parts};
 use hv_eval_state::{Halt, Task, pay};
+use hv_items::Items;
+use hv_partial::Held;
+use hv_sem_copying::TrapKind;
 use hv_tree::{Expr, Place};
 
 // A body on what it is entered with.

@@ -15,12 +15,12 @@ ghost use Rattle.hv_eval_calls.specs.Calling.{callee_in, parts_in, trees_of, con
 use crate::args::all_given;
 use crate::bodies::enter;
 use crate::given::{Given, passed_captures};
-use hv_sem_copying::Cause;
-use hv_partial::Held;
-use hv_items::Items;
 use hv_eval_env::{Callee, Level, Parts, value_callee};
 use hv_eval_operands::copied;
 use hv_eval_state::{Halt, Task, close_all};
+use hv_items::Items;
+use hv_partial::Held;
+use hv_sem_copying::Cause;
 use hv_tree::{Arg, Call, Expr, Name, Param, Place, Step};
 use std::alloc::Global;
 

@@ -15,12 +15,12 @@ ghost use Rattle.hv_eval_calls.specs.Children.{passed_of, child_of};
 use crate::calls::callee;
 use crate::given::passed_captures;
 use crate::passed::Passed;
-use hv_sem_copying::Cause;
-use hv_partial::Held;
-use hv_items::{Items, at};
 use hv_eval_env::{Callee, Level, Parts, Scoped};
 use hv_eval_operands::{found, place_in};
 use hv_eval_state::{Halt, Mode, Task, take_there};
+use hv_items::{Items, at};
+use hv_partial::Held;
+use hv_sem_copying::Cause;
 use hv_tree::{Arg, Call, Conv, Expr, Param, PlaceExpr};
 
 /// What a child runs: a body, and what that is entered with.

@@ -9,9 +9,9 @@ ghost use Rattle.hv_eval_state.specs.Gives.{now_of};
 ghost use Rattle.hv_eval_calls.specs.Passes.{passed_by, lent_by, own_by, with_own, first_by};
 
 use crate::passed::Passed;
-use hv_partial::{Held, copy};
-use hv_items::{Items, at};
 use hv_eval_state::{Mode, Task, drop_local, set_local};
+use hv_items::{Items, at};
+use hv_partial::{Held, copy};
 use std::alloc::{AllocError as NoMemory, Global};
 use std::mem;
 

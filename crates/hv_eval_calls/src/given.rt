@@ -9,9 +9,9 @@ ghost use Rattle.hv_eval_calls.specs.Passes.{passed_by};
 ghost use Rattle.hv_eval_calls.specs.Arguments.{argument_by, taken_one, sofar_of};
 
 use crate::passed::Passed;
-use hv_partial::Held;
-use hv_items::Items;
 use hv_eval_state::{Access, Halt, Mode, Spot, Task, open};
+use hv_items::Items;
+use hv_partial::Held;
 use std::alloc::{AllocError as NoMemory, Global};
 
 /// An argument that has been evaluated.

@@ -1,7 +1,7 @@
 // What a body is entered with.
 
-use hv_partial::Held;
 use hv_eval_state::Mode;
+use hv_partial::Held;
 
 /// What a body is entered with.
 #[derive(Drop)]

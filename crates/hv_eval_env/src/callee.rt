@@ -1,7 +1,7 @@
 // What a call goes to.
 
-use hv_partial::Held;
 use hv_items::Items;
+use hv_partial::Held;
 
 /// What a call goes to.
 #[derive(Drop)]

@@ -12,10 +12,10 @@ ghost use Rattle.hv_eval_env.specs.Callees.{callee_of};
 
 use crate::callee::Callee;
 use crate::level::Level;
-use hv_sem_copying::Cause;
-use hv_partial::Held;
-use hv_items::Items;
 use hv_eval_state::{Halt, Task};
+use hv_items::Items;
+use hv_partial::Held;
+use hv_sem_copying::Cause;
 use hv_tree::{Name, Step};
 
 impl<'a> Level<'a> {

@@ -6,8 +6,8 @@ ghost use Rattle.hv_eval_env.specs.Level.{value_in, body_in, flow_of};
 ghost use Rattle.hv_eval_env.specs.Nests.{Evals, Bodies};
 
 use crate::level::Level;
-use hv_partial::Held;
 use hv_eval_state::{Halt, Task};
+use hv_partial::Held;
 use hv_tree::Expr;
 
 /// What evaluates the parts of a part: expressions, and bodies that are entered.

@@ -7,9 +7,9 @@ ghost use Rattle.hv_eval_state.specs.Gives.{Gives, from};
 ghost use Rattle.hv_eval_env.specs.Nests.{Evals, Bodies};
 ghost use Rattle.hv_eval_operands.specs.Operands.{chained_in, chain_in, operated, prefix_in};
 
-use hv_partial::Held;
 use hv_eval_env::{Level, Parts};
 use hv_eval_state::{Halt, Task, binary, decides, unary};
+use hv_partial::Held;
 use hv_tree::{Expr, Operator, Place};
 
 // An operator applied to what stands before it and to its operand.

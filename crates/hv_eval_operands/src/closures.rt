@@ -6,11 +6,11 @@ ghost use Rattle.hv_partial.specs.HeldTree.{held_tree};
 ghost use Rattle.hv_eval_state.specs.Gives.{Gives, from};
 ghost use Rattle.hv_eval_operands.specs.Operands.{trees, captured_in, capture_in, lambda_in};
 
-use hv_sem_copying::Cause;
-use hv_partial::Held;
-use hv_items::Items;
 use hv_eval_env::Level;
 use hv_eval_state::{Halt, Task, copy_there, look};
+use hv_items::Items;
+use hv_partial::Held;
+use hv_sem_copying::Cause;
 use hv_tree::{Block, Name};
 
 // A copy of a local, which is paid at the captured name.

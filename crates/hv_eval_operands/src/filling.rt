@@ -9,10 +9,10 @@ ghost use Rattle.hv_eval_state.specs.Gives.{Gives, from, nothing};
 ghost use Rattle.hv_eval_env.specs.Nests.{Evals, Bodies};
 ghost use Rattle.hv_eval_operands.specs.Operands.{filled_in};
 
-use hv_sem_copying::TrapKind;
-use hv_partial::{Held, Length, length_to_fill, size};
 use hv_eval_env::{Level, Parts};
 use hv_eval_state::{Halt, Task, number};
+use hv_partial::{Held, Length, length_to_fill, size};
+use hv_sem_copying::TrapKind;
 use hv_tree::{Expr, Place};
 use std::alloc::Global;
 

@@ -8,12 +8,12 @@ ghost use Rattle.hv_eval_state.specs.Gives.{Gives, from, itself};
 ghost use Rattle.hv_eval_env.specs.Nests.{Evals, Bodies};
 ghost use Rattle.hv_eval_operands.specs.Links.{links_in, link_in, linked, index_by};
 
-use hv_sem_copying::Cause;
-use hv_partial::{Held, Link};
-use hv_items::Items;
 use hv_eval_env::{Level, Parts};
-use hv_scope::{element_at, field_at};
 use hv_eval_state::{Halt, Task, number};
+use hv_items::Items;
+use hv_partial::{Held, Link};
+use hv_scope::{element_at, field_at};
+use hv_sem_copying::Cause;
 use hv_tree::{Expr, Step, Ty};
 
 #[tactic(auto, unfolding(hv_sem_copying::specs::Run::and_then))]

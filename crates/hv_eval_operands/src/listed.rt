@@ -6,10 +6,10 @@ ghost use Rattle.hv_eval_state.specs.Gives.{Gives, from};
 ghost use Rattle.hv_eval_env.specs.Nests.{Evals, Bodies};
 ghost use Rattle.hv_eval_operands.specs.Operands.{trees, values_in, array_in};
 
-use hv_partial::Held;
-use hv_items::Items;
 use hv_eval_env::{Level, Parts};
 use hv_eval_state::{Halt, Task};
+use hv_items::Items;
+use hv_partial::Held;
 use hv_tree::Expr;
 
 /// The values in order.

@@ -15,12 +15,12 @@ ghost use Rattle.hv_eval_env.specs.Nests.{Evals, Bodies};
 ghost use Rattle.hv_eval_operands.specs.Places.{found_in, found_by, moved_from, count_there};
 
 use crate::linking::links;
-use hv_sem_copying::Cause;
-use hv_partial::{Held, get, length_of};
-use hv_items::at;
 use hv_eval_env::{Level, Parts};
-use hv_scope::value_type;
 use hv_eval_state::{Halt, Spot, Task, copy_there, look, take_there};
+use hv_items::at;
+use hv_partial::{Held, get, length_of};
+use hv_scope::value_type;
+use hv_sem_copying::Cause;
 use hv_tree::{Expr, ExprKind, Name, PlaceExpr, Step};
 use std::alloc::AllocError as NoMemory;
 

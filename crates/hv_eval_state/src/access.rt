@@ -12,9 +12,9 @@ ghost use Rattle.hv_eval_state.specs.Opened.{access_of, last_first};
 use crate::local::{drop_local, set_local};
 use crate::spot::{Spot, put_local};
 use crate::task::{Halt, Task};
-use hv_sem_copying::Cause;
-use hv_partial::{Held, copy, get};
 use hv_items::at;
+use hv_partial::{Held, copy, get};
+use hv_sem_copying::Cause;
 use std::alloc::{AllocError as NoMemory, Global};
 
 /// What an access may do with its place.

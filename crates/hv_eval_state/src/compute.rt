@@ -11,8 +11,8 @@ ghost use Rattle.hv_eval_state.specs.Gives.{Gives, from, nothing, itself};
 
 use crate::paid::say;
 use crate::task::{Halt, Task};
-use hv_sem_copying::{Cause, TrapKind};
 use hv_partial::{Computed, Held};
+use hv_sem_copying::{Cause, TrapKind};
 use hv_tree::{Operator, Place};
 use std::alloc::{AllocError, Global};
 

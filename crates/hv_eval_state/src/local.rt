@@ -5,8 +5,8 @@ ghost use Rattle.hv_sem_copying.specs.Copying.{change_at};
 ghost use Rattle.hv_partial.specs.HeldTree.{held_tree};
 ghost use Rattle.hv_value.specs.ValueTree.{ValueTree, Hole};
 
-use hv_partial::Held;
 use hv_items::Items;
+use hv_partial::Held;
 use std::alloc::AllocError as NoMemory;
 
 /// Puts a tree under a number. Numbers before it that have none yet hold holes.

@@ -16,9 +16,9 @@ ghost use Rattle.hv_eval_state.specs.Spots.{spot_of, copied_there, Found};
 
 use crate::local::{drop_local, set_local};
 use crate::task::{Halt, Task};
-use hv_sem_copying::{Cause, TrapKind};
-use hv_partial::{Held, Link, Way, copy, get, is_whole, replace, size, take_out, walk};
 use hv_items::{Items, at};
+use hv_partial::{Held, Link, Way, copy, get, is_whole, replace, size, take_out, walk};
+use hv_sem_copying::{Cause, TrapKind};
 use hv_tree::Place;
 use hv_value::PathStep;
 use std::alloc::{AllocError as NoMemory, Global};

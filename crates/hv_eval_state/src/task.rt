@@ -3,9 +3,9 @@
 ghost use Rattle.hv_eval_state.specs.declared.task.Halt.TheVariants.{NoMemory};
 ghost use Rattle.std.specs.Prelude.{◌≡◌};
 
-use hv_sem_copying::{Cause, TrapKind};
-use hv_partial::Held;
 use hv_items::Items;
+use hv_partial::Held;
+use hv_sem_copying::{Cause, TrapKind};
 use hv_tree::Place;
 use std::alloc::AllocError;
 

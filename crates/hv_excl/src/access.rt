@@ -3,8 +3,8 @@ ghost use Rattle.std.specs.Prelude.{◌≡◌, ◌∷◌, [], OnOk, MatchOption}
 ghost use Rattle.hv_rules.specs.States as states;
 ghost use Rattle.hv_excl.specs.Access as spec;
 
-use hv_items::Items;
 use hv_decls::StaticPath;
+use hv_items::Items;
 use std::alloc::{AllocError as NoMemory, Global};
 use std::marker::Model;
 

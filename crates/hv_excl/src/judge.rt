@@ -6,9 +6,9 @@ use crate::access::Opened;
 use crate::clash::refused_at;
 use crate::open::pass_event;
 use crate::told::{declares, told_binding};
-use hv_items::Items;
 use hv_flow_pass::{Act, PassOp, Range};
 use hv_flow_plan::FlowOp;
+use hv_items::Items;
 use hv_tree::Refusal;
 use std::alloc::{AllocError as NoMemory, Global};
 

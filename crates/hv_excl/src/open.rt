@@ -5,8 +5,8 @@ ghost use Rattle.hv_excl.specs.Access.{access_by, mode_by};
 ghost use Rattle.hv_excl.specs.Clashes as spec;
 
 use crate::access::{AccessMode, OpenAccess, Opened};
-use hv_items::Items;
 use hv_decls::StaticPath;
+use hv_items::Items;
 use hv_rules::FlowEvent;
 use std::alloc::{AllocError as NoMemory, Global};
 

@@ -7,8 +7,8 @@ ghost use Rattle.hv_flow.specs.Walks.{IsGraphOf};
 
 use crate::build::graph_of;
 use crate::nodes::FlowGraph;
-use hv_items::Items;
 use hv_flow_plan::plan_of_body;
+use hv_items::Items;
 use hv_scope::{Body, Declared, bodies_of};
 use hv_tree::Tree;
 use std::alloc::{AllocError as NoMemory, Global};

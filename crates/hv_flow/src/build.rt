@@ -9,8 +9,8 @@ ghost use Rattle.hv_flow.specs.Reading.{given, read, read_all};
 
 use crate::nodes::{FlowGraph, Node};
 use crate::waiting::{Frame, Part, Waiting};
-use hv_items::Items;
 use hv_flow_plan::FlowOp;
+use hv_items::Items;
 use hv_rules::FlowEvent;
 use hv_tree::Place;
 use std::alloc::{AllocError as NoMemory, Global};

@@ -6,9 +6,9 @@ use crate::act::Range;
 use crate::first::{earlier, is_before, when};
 use crate::hints::Hint;
 use crate::{cells, hints};
+use hv_flow_versions::Versions;
 use hv_items::Items;
 use hv_tree::Refusal;
-use hv_flow_versions::Versions;
 use std::alloc::AllocError as NoMemory;
 
 /// The refusal is due where the cell had the value as the turn began.

@@ -1,7 +1,7 @@
 use crate::asked::{Asks, Entry};
+use hv_flow_versions::Versions;
 use hv_items::Items;
 use hv_tree::Refusal;
-use hv_flow_versions::Versions;
 
 /// What the pass knows where it stands.
 #[derive(Drop)]

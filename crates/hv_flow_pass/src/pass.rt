@@ -16,9 +16,9 @@ use crate::known::{Frame, Known};
 use crate::plan::PassOp;
 use crate::waiting::Waiting;
 use crate::{asked, cells, hints};
+use hv_flow_versions::Versions;
 use hv_items::Items;
 use hv_tree::Refusal;
-use hv_flow_versions::Versions;
 use std::alloc::{AllocError as NoMemory, Global};
 use std::mem;
 

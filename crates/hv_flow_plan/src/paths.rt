@@ -11,8 +11,8 @@ ghost use Rattle.hv_scope.specs.Known.{typed};
 ghost use Rattle.hv_flow_plan.specs.Scopes.{callee_by, tree_in, locals_in};
 
 use crate::scope::{Scope, find};
-use hv_items::Items;
 use hv_decls::StaticStep;
+use hv_items::Items;
 use hv_scope::{Declared, behind, field_at, type_behind};
 use hv_tree::{Conv, Expr, ExprKind, Name, Param, PlaceExpr, Step, Ty};
 use std::alloc::{AllocError as NoMemory, Global};

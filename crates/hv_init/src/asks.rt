@@ -7,11 +7,11 @@ ghost use Rattle.hv_flow_pass.specs.declared.act.Act.TheVariants as act;
 ghost use Rattle.hv_init_cells.specs.Acts as spec;
 ghost use Rattle.hv_init.specs.Words as ended;
 
-use hv_flow_ends::{End, Span, is_end};
-use hv_items::Items;
-use hv_init_layout::Layout;
-use hv_flow_pass::{Act, Range};
 use hv_decls::{StaticPath, has_index};
+use hv_flow_ends::{End, Span, is_end};
+use hv_flow_pass::{Act, Range};
+use hv_init_layout::Layout;
+use hv_items::Items;
 use hv_rules::FlowEvent;
 use hv_tree::{Place, Refusal, Rule};
 use std::alloc::AllocError as NoMemory;

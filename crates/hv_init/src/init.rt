@@ -9,12 +9,12 @@ ghost use Rattle.hv_init_cells.specs.Law.{IsViolatedAmong, IsViolatedBy};
 
 use crate::words::init_words;
 use hv_flow_ends::{ends_of, without_entry};
-use hv_init_layout::Layout;
-use hv_init_leaves::Sizes;
 use hv_flow_pass::first_refusal;
 use hv_flow_plan::plan_of_body;
-use hv_tree::{Refusal, Tree, earlier};
+use hv_init_layout::Layout;
+use hv_init_leaves::Sizes;
 use hv_scope::{Body, Declared, bodies_of};
+use hv_tree::{Refusal, Tree, earlier};
 use std::alloc::{AllocError as NoMemory, Global};
 
 fn body_refusal<'t>(

@@ -6,11 +6,11 @@ ghost use Rattle.hv_init_layout.specs.Laid.{laid};
 ghost use Rattle.hv_flow_pass.specs.declared.act.Act.TheVariants as act;
 ghost use Rattle.hv_init_cells.specs.Acts as spec;
 
-use hv_excl::{AccessMode, OpenAccess, Opened};
-use hv_items::Items;
-use hv_init_layout::Layout;
-use hv_flow_pass::Act;
 use hv_decls::{StaticPath, has_index};
+use hv_excl::{AccessMode, OpenAccess, Opened};
+use hv_flow_pass::Act;
+use hv_init_layout::Layout;
+use hv_items::Items;
 use hv_rules::FlowEvent;
 use std::alloc::AllocError as NoMemory;
 

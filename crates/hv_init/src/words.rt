@@ -5,12 +5,12 @@ ghost use Rattle.hv_init.specs.Words as spec;
 
 use crate::asks::ask;
 use crate::sets::set;
-use hv_flow_ends::{End, ends_behind};
 use hv_excl::{Opened, declares, pass_word, told_binding};
-use hv_items::Items;
-use hv_init_layout::Layout;
+use hv_flow_ends::{End, ends_behind};
 use hv_flow_pass::{Act, PassOp};
 use hv_flow_plan::FlowOp;
+use hv_init_layout::Layout;
+use hv_items::Items;
 use hv_rules::FlowEvent;
 use hv_tree::Place;
 use std::alloc::{AllocError as NoMemory, Global};

@@ -4,8 +4,8 @@ ghost use Rattle.hv_init_cells.specs.Ranked.{rank, ranked};
 ghost use Rattle.hv_init_layout.specs.Cuts as spec;
 
 use crate::ends::sum;
-use hv_items::Items;
 use hv_flow_pass::Range;
+use hv_items::Items;
 use std::alloc::{AllocError as NoMemory, Global};
 use std::marker::Model;
 

@@ -4,11 +4,11 @@ ghost use Rattle.hv_init_layout.specs.Ends as spec;
 ghost use Rattle.hv_init_layout.specs.Tracked.{flag_at};
 
 use crate::tracked::Tracked;
-use hv_items::Items;
-use hv_init_leaves::{Leaves, Sizes};
+use hv_decls::StaticPath;
 use hv_flow_pass::Range;
 use hv_flow_plan::FlowOp;
-use hv_decls::StaticPath;
+use hv_init_leaves::{Leaves, Sizes};
+use hv_items::Items;
 use hv_rules::FlowEvent;
 use std::alloc::{AllocError as NoMemory, Global};
 

@@ -14,12 +14,12 @@ ghost use Rattle.hv_init_layout.specs.Spans.{FollowOneAnother, span_of};
 use crate::cuts::{Cuts, number};
 use crate::ends::{all_ends, sum};
 use crate::tracked::{Tracked, kept_locals};
-use hv_init_leaves::{Leaves, Sizes};
+use hv_decls::{StaticPath, StaticStep};
 use hv_flow_pass::Range;
 use hv_flow_plan::FlowOp;
-use hv_decls::{StaticPath, StaticStep};
-use hv_scope::{Body, Declared, body_locals};
+use hv_init_leaves::{Leaves, Sizes};
 use hv_init_needs::locals_with_state;
+use hv_scope::{Body, Declared, body_locals};
 use std::alloc::{AllocError as NoMemory, Global};
 
 /// Which cells the leaves of a body's locals have. Cell 0 is that of no leaf. A local whose declaration fills

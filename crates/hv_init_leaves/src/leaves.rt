@@ -10,8 +10,8 @@ use crate::reached::{part_at, range_of, walked};
 use crate::row::{Row, row_from};
 use crate::sizes::Sizes;
 use crate::table::numbers_of;
-use hv_flow_pass::Range;
 use hv_decls::StaticStep;
+use hv_flow_pass::Range;
 use hv_scope::{Declared, Known};
 use std::alloc::{AllocError as NoMemory, Global};
 

@@ -6,8 +6,8 @@ ghost use Rattle.hv_init_leaves.specs.Reached as spec;
 use crate::rounds::add;
 use crate::row::{Part, Row, size_at};
 use crate::sizes::{Sizes, row_by};
-use hv_flow_pass::Range;
 use hv_decls::StaticStep;
+use hv_flow_pass::Range;
 use std::alloc::AllocError as NoMemory;
 
 /// What the fields of a path lead to.

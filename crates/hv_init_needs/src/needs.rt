@@ -12,8 +12,8 @@ use crate::event::{asked, emptied, given, pass_event};
 use crate::sight::Sight;
 use crate::standing::{Standing, fill, needs, unsettle};
 use hv_excl::{declares, told_binding};
-use hv_items::Items;
 use hv_flow_plan::FlowOp;
+use hv_items::Items;
 use hv_rules::FlowEvent;
 use std::alloc::{AllocError as NoMemory, Global};
 

@@ -8,11 +8,11 @@ ghost use Rattle.hv_eval_env.specs.Nests.{Evals, Bodies};
 ghost use Rattle.hv_meaning.specs.Kinds.{awaited_in};
 
 use hv_eval_calls::call;
-use hv_sem_copying::Cause;
-use hv_partial::Held;
 use hv_eval_env::{Level, Parts};
 use hv_eval_operands::{array, chain, counted, filled, lambda, named, prefix};
 use hv_eval_state::{Halt, Task};
+use hv_partial::Held;
+use hv_sem_copying::Cause;
 use hv_tree::{Expr, ExprKind, Name};
 
 // Tasks have no rule yet.

@@ -13,13 +13,13 @@ ghost use Rattle.hv_eval_state.specs.Gives.{Gives, now_of};
 ghost use Rattle.hv_task_tree.specs.Seen.{node_seen};
 
 use crate::tie::body_at;
-use hv_sem_flat::flat_is_copying;
-use hv_partial::Held;
-use hv_items::Items;
 use hv_eval_env::{Level, Program};
-use hv_task_tree::{End, TaskNode};
-use hv_scope::Locals;
 use hv_eval_state::{Halt, Task};
+use hv_items::Items;
+use hv_partial::Held;
+use hv_scope::Locals;
+use hv_sem_flat::flat_is_copying;
+use hv_task_tree::{End, TaskNode};
 use hv_tree::Tree;
 use std::alloc::{AllocError as NoMemory, Global};
 

@@ -8,10 +8,10 @@ ghost use Rattle.hv_eval_env.specs.Level.{value_in, block_in, body_in, flow_of};
 
 use crate::kinds::value;
 use hv_eval_blocks::Stmts;
-use hv_sem_copying::Cause;
-use hv_partial::Held;
 use hv_eval_env::{Level, Parts};
 use hv_eval_state::{Halt, Task};
+use hv_partial::Held;
+use hv_sem_copying::Cause;
 use hv_tree::{Block, Expr, Ty};
 
 /// The end of a body with a result isn't reached.

@@ -6,8 +6,8 @@ ghost use Rattle.hv_syn_grammar.specs.Statements as spec;
 ghost use Rattle.hv_syn_terms.specs.Nests.{NestsExpr, NestsPlace, NestsStmts};
 
 use crate::statements::Statements;
-use hv_syn_grammar::{Cursor, Stop};
 use hv_items::{Items, beside};
+use hv_syn_grammar::{Cursor, Stop};
 use hv_syn_terms::type_at;
 use hv_tree::{Expr, Name, PlaceExpr, Stmt, StmtKind, Ty};
 use std::alloc::Global;

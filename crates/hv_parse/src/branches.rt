@@ -7,8 +7,8 @@ ghost use Rattle.hv_syn_terms.specs.Nests.{NestsExpr, NestsPlace, NestsStmts};
 ghost use Rattle.hv_parse.specs.Parts.{parts_after};
 
 use crate::statements::Statements;
-use hv_syn_grammar::{Cursor, ElsePart, Stop};
 use hv_items::{Items, beside};
+use hv_syn_grammar::{Cursor, ElsePart, Stop};
 use hv_tree::{Block, Branch, Expr, PlaceExpr, Stmt, StmtKind};
 use std::alloc::Global;
 

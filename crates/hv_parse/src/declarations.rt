@@ -8,8 +8,8 @@ ghost use Rattle.hv_tree.specs.Refusal.{most_open};
 
 use crate::knot::block_at;
 use crate::marks::semicolon;
-use hv_syn_grammar::{Cursor, Stop};
 use hv_items::{Items, beside};
+use hv_syn_grammar::{Cursor, Stop};
 use hv_syn_terms::{bracketed_params, returned, type_at};
 use hv_tree::{Decl, Field, FunDecl, StructDecl, Tree};
 use std::alloc::Global;

@@ -10,8 +10,8 @@ ghost use Rattle.hv_syn_terms.specs.Nests.{NestsExpr, NestsPlace, NestsStmts};
 
 use crate::marks::semicolon;
 use crate::statements::Statements;
-use hv_syn_grammar::{Cursor, Stop};
 use hv_items::{Items, beside};
+use hv_syn_grammar::{Cursor, Stop};
 use hv_tree::{Expr, Place, PlaceExpr, Stmt, StmtKind};
 use std::alloc::Global;
 

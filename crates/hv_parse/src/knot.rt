@@ -5,8 +5,8 @@ ghost use Rattle.hv_syn_grammar.specs.Declarations.{inner, expr_at_room, place_a
 ghost use Rattle.hv_syn_grammar.specs.Expressions.{block};
 
 use crate::statements::Statements;
-use hv_syn_grammar::{Cursor, Stop};
 use hv_items::Items;
+use hv_syn_grammar::{Cursor, Stop};
 use hv_syn_terms::Grammar;
 use hv_tree::{Block, Expr, PlaceExpr, Stmt};
 use std::alloc::Global;

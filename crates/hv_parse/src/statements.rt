@@ -5,8 +5,8 @@ ghost use Rattle.hv_syn_grammar.specs.Declarations.{inner};
 ghost use Rattle.hv_syn_grammar.specs.Statements as spec;
 ghost use Rattle.hv_syn_terms.specs.Nests.{NestsExpr, NestsPlace, NestsStmts};
 
-use hv_syn_grammar::{Cursor, Stop};
 use hv_items::Items;
+use hv_syn_grammar::{Cursor, Stop};
 use hv_syn_terms::Grammar;
 use hv_tree::{Expr, PlaceExpr, Stmt, StmtKind};
 use std::alloc::Global;

@@ -6,8 +6,8 @@ ghost use Rattle.hv_syn_grammar.specs.Statements as spec;
 ghost use Rattle.hv_syn_terms.specs.Nests.{NestsExpr, NestsPlace, NestsStmts};
 
 use crate::statements::Statements;
-use hv_syn_grammar::{Cursor, Stop};
 use hv_items::{Items, beside};
+use hv_syn_grammar::{Cursor, Stop};
 use hv_syn_terms::type_at;
 use hv_tree::{Expr, Place, PlaceExpr, Stmt, StmtKind, Ty};
 use std::alloc::Global;
@@ -70,10 +70,7 @@ impl<
     {
         let at = cursor.keyword("task")?;
         let name = cursor.word(self.terms.alloc)?;
-        let typed = beside(
-            name,
-            task_type(self.terms.alloc, cursor, self.terms.room),
-        )?;
+        let typed = beside(name, task_type(self.terms.alloc, cursor, self.terms.room))?;
         let (typed, _) = beside(typed, cursor.mark("="))?;
         let spawned = beside(typed, self.budget(cursor))?;
         let (((name, ty), (spawn, budget)), (_, call)) = beside(spawned, self.terms.call(cursor))?;

@@ -14,5 +14,6 @@ pub mod Meaning
 -- comparing kinds of state
 pub mod Alike
 pub mod Laws
+
 -- blocks as a loop goes through them
 -- programs that are safe as they stand

@@ -8,8 +8,8 @@ ghost use Rattle.hv_syn_grammar.specs.Declarations.{inner};
 ghost use Rattle.hv_syn_terms.specs.Nests.{NestsExpr, NestsPlace, NestsStmts};
 
 use crate::grammar::Grammar;
-use hv_syn_grammar::{Cursor, Stop, Strength};
 use hv_items::{Boxed, Items, beside};
+use hv_syn_grammar::{Cursor, Stop, Strength};
 use hv_tree::{Expr, ExprKind, Operator, Place, PlaceExpr, Stmt};
 use std::alloc::{AllocError, Global};
 

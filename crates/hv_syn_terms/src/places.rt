@@ -10,8 +10,8 @@ ghost use Rattle.hv_syn_terms.specs.Nests.{NestsExpr, NestsPlace, NestsStmts};
 ghost use Rattle.hv_syn_terms.specs.Parts.{parts_after, begins_keyed, begins_unkeyed};
 
 use crate::grammar::Grammar;
-use hv_syn_grammar::{Cursor, Stop};
 use hv_items::{Items, beside};
+use hv_syn_grammar::{Cursor, Stop};
 use hv_tree::{Arg, Block, Call, Expr, Name, Place, PlaceExpr, Step, Stmt};
 use std::alloc::Global;
 

@@ -12,8 +12,8 @@ ghost use Rattle.hv_syn_terms.specs.Parts.{parts_after};
 
 use crate::grammar::Grammar;
 use crate::signatures::{bracketed_params, names, returned};
-use hv_syn_grammar::{Cursor, Stop};
 use hv_items::{Boxed, Items, beside};
+use hv_syn_grammar::{Cursor, Stop};
 use hv_tree::{Expr, ExprKind, Name, Operator, Place, PlaceExpr, Stmt};
 use std::alloc::{AllocError, Global};
 

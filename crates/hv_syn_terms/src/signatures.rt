@@ -6,8 +6,8 @@ ghost use Rattle.hv_syn_grammar.specs.Reads.{Reads};
 ghost use Rattle.hv_syn_grammar.specs.Signatures as sig;
 ghost use Rattle.hv_syn_terms.specs.Parts.{parts_after};
 
-use hv_syn_grammar::{Cursor, Stop};
 use hv_items::{Boxed, Items};
+use hv_syn_grammar::{Cursor, Stop};
 use hv_tree::{Conv, Name, Param, Place, Ty};
 use std::alloc::{AllocError, Global};
 

@@ -1,6 +1,6 @@
-use hv_sem_copying::TrapKind;
-use hv_partial::Held;
 use hv_items::Items;
+use hv_partial::Held;
+use hv_sem_copying::TrapKind;
 use hv_tree::Place;
 
 /// How a task ended.

@@ -1,10 +1,10 @@
 ghost use Rattle.std.specs.Prelude.{◌≡◌, [], ◌∷◌, IfOk};
 
+use hv_items::Items;
 use hv_partial::{
     Computed, Held, Length, Link, Way, binary, copy, emptied, equal, filled, get, is_whole,
     length_of, length_to_fill, of_value, put, size, take_out, text, to_value, unary, walk,
 };
-use hv_items::Items;
 use hv_tree::{Operator, Place};
 use hv_value::PathStep;
 use std::alloc::{AllocError as NoMemory, Global};

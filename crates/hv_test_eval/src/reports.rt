@@ -1,8 +1,8 @@
-use hv_sem_copying::TrapKind;
-use hv_partial::Held;
 use hv_items::Items;
-use hv_task_tree::{End, TaskNode};
+use hv_partial::Held;
 use hv_report::{refusal_text, report};
+use hv_sem_copying::TrapKind;
+use hv_task_tree::{End, TaskNode};
 use hv_tree::{Place, Refusal, Rule};
 use std::alloc::{AllocError as NoMemory, Global};
 use std::test::Fail;

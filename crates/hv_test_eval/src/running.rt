@@ -1,6 +1,6 @@
-use hv_task_tree::TaskNode;
-use hv_parse::{ParseEnd, parse};
 use hv_meaning::evaluate;
+use hv_parse::{ParseEnd, parse};
+use hv_task_tree::TaskNode;
 use hv_token::lex;
 use std::alloc::{AllocError as NoMemory, Global};
 use std::sync::Wait;

@@ -1,10 +1,10 @@
-use hv_sem_copying::TrapKind;
-use hv_partial::{Held, Link};
-use hv_items::Items;
 use hv_eval_state::{
     Access, Halt, Mode, Spot, Task, binary, close_all, copy_there, decides, look, number, open,
     pay, pay_size, print, put_there, set_local, take_there, truth, unary,
 };
+use hv_items::Items;
+use hv_partial::{Held, Link};
+use hv_sem_copying::TrapKind;
 use hv_tree::{Operator, Place};
 use std::alloc::{AllocError as NoMemory, Global};
 use std::test::Fail;

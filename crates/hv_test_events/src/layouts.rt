@@ -1,9 +1,9 @@
-use hv_items::Items;
-use hv_init_layout::Layout;
-use hv_init_leaves::Sizes;
+use hv_decls::{StaticPath, StaticStep};
 use hv_flow_pass::Range;
 use hv_flow_plan::plan_of_body;
-use hv_decls::{StaticPath, StaticStep};
+use hv_init_layout::Layout;
+use hv_init_leaves::Sizes;
+use hv_items::Items;
 use hv_scope::{Body, Declared, bodies_of};
 use hv_tree::{Block, Conv, Decl, Field, Name, Param, Place, Tree, builders as build};
 use std::alloc::{AllocError as NoMemory, Global};

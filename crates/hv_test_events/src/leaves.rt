@@ -1,6 +1,6 @@
-use hv_init_leaves::{Leaves, Sizes};
-use hv_flow_pass::Range;
 use hv_decls::StaticStep;
+use hv_flow_pass::Range;
+use hv_init_leaves::{Leaves, Sizes};
 use hv_scope::{Declared, Kind, Known};
 use hv_tree::{Decl, Field, Name, Place, Tree, Ty, builders as build};
 use std::alloc::{AllocError as NoMemory, Global};

@@ -1,8 +1,8 @@
-use hv_items::Items;
-use hv_flow_plan::FlowOp;
 use hv_decls::{StaticPath, StaticStep};
-use hv_rules::FlowEvent;
+use hv_flow_plan::FlowOp;
 use hv_init_needs::locals_with_state;
+use hv_items::Items;
+use hv_rules::FlowEvent;
 use hv_tree::Place;
 use std::alloc::{AllocError as NoMemory, Global};
 use std::test::Fail;

@@ -1,5 +1,5 @@
-use hv_items::Items;
 use hv_flow_pass::{Act, PassOp, Range, first_refusal};
+use hv_items::Items;
 use hv_tree::{Place, Refusal, Rule};
 use std::alloc::{AllocError as NoMemory, Global};
 use std::test::Fail;

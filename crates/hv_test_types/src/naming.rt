@@ -1,11 +1,11 @@
 use hv_items::Items;
-use hv_type_names::names;
 use hv_tree::builders::{
     block, decl_fun, decl_struct, expr, expr_kind_int, expr_kind_lambda, expr_kind_path, field,
     fun_decl, name, param, place_expr, stmt, stmt_kind_block, stmt_kind_print, stmt_kind_var,
     struct_decl, ty_int, ty_named,
 };
 use hv_tree::{Block, Conv, Decl, Expr, Name, Param, Place, Refusal, Rule, Stmt, Tree, Ty};
+use hv_type_names::names;
 use std::alloc::{AllocError as NoMemory, Global};
 use std::test::Fail;
 

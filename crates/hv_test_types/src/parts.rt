@@ -1,10 +1,10 @@
-use hv_type_judge::{judge_call, judge_expr, judge_place, judge_stmt, judge_test};
 use hv_scope::{Declared, Visible, visible_first};
 use hv_symbols::Texts;
 use hv_tree::{
     Call, Conv, Expr, Name, Param, Place, PlaceExpr, Refusal, Rule, Step, Stmt, Tree, Ty,
     builders as build,
 };
+use hv_type_judge::{judge_call, judge_expr, judge_place, judge_stmt, judge_test};
 use hv_type_synth::Around;
 use std::alloc::{AllocError as NoMemory, Global};
 use std::test::Fail;

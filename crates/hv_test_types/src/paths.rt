@@ -1,5 +1,5 @@
-use hv_items::Items;
 use hv_decls::{StaticPath, StaticStep, overlap};
+use hv_items::Items;
 use hv_tree::{Place, Refusal, Rule, earlier};
 use std::test::Fail;
 

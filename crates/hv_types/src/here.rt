@@ -2,10 +2,10 @@
 ghost use Rattle.std.specs.Prelude.{◌≡◌, ◌++◌, OnOk};
 ghost use Rattle.hv_types.specs.Walked as walked;
 
-use hv_type_judge::{judge_call, judge_expr, judge_place, judge_stmt, judge_test};
 use hv_scope::{Declared, Visible};
 use hv_symbols::Texts;
 use hv_tree::{Call, Expr, PlaceExpr, Refusal, Stmt, Ty};
+use hv_type_judge::{judge_call, judge_expr, judge_place, judge_stmt, judge_test};
 use hv_type_synth::Around;
 use std::alloc::{AllocError as NoMemory, Global};
 

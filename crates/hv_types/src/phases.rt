@@ -15,10 +15,10 @@ use crate::holders::holders;
 use crate::rounds::depths;
 use crate::structs::{judge_structs, names_of};
 use hv_items::Items;
-use hv_type_names::names;
-use hv_tree::{Decl, Refusal, Tree, first};
 use hv_scope::Declared;
 use hv_symbols::Texts;
+use hv_tree::{Decl, Refusal, Tree, first};
+use hv_type_names::names;
 use std::alloc::{AllocError as NoMemory, Global};
 
 // The names of the structs whose values have function values in them.
