@@ -10,14 +10,13 @@ here=$(pwd)
 work=$(mktemp -d)
 trap 'rm -rf "$work"' EXIT
 mkdir -p "$work/crates/plan_bench/src"
-for name in hv_items hv_tree hv_rules hv_symbols hv_scope hv_flow_plan; do
-    mkdir "$work/crates/$name"
-    cp -r "$here/crates/$name/src" "$here/crates/$name/specs" "$work/crates/$name/"
-    if [ -d "$here/crates/$name/proofs" ]; then cp -r "$here/crates/$name/proofs" "$work/crates/$name/"; fi
-    grep "^$name:" "$here/crates.txt" >> "$work/crates.txt"
+"$here/.ci/edges" --below hv_flow_plan > "$work/crates.txt"
+for name in $(cut -d: -f1 "$work/crates.txt"); do
+    cp -r "$here/crates/$name" "$work/crates/"
+    rm -rf "$work/crates/$name/out"
 done
 cp "$here/HANDLES" "$work/"
-echo 'plan_bench: hv_flow_plan hv_scope hv_rules hv_symbols hv_tree hv_items' >> "$work/crates.txt"
+echo 'plan_bench: hv_tree hv_flow_plan' >> "$work/crates.txt"
 cat > "$work/crates/plan_bench/src/main.rt" <<'END_OF_PROGRAM'
 //! Times the plans of bodies of several forms and lengths.
 #![tactic(auto)]

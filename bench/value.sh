@@ -8,17 +8,13 @@ here=$(pwd)
 work=$(mktemp -d)
 trap 'rm -rf "$work"' EXIT
 mkdir -p "$work/crates/value_bench/src"
-for name in hv_items hv_value; do
-    mkdir "$work/crates/$name"
-    cp -r "$here/crates/$name/src" "$here/crates/$name/specs" "$work/crates/$name/"
-    if [ -d "$here/crates/$name/proofs" ]; then cp -r "$here/crates/$name/proofs" "$work/crates/$name/"; fi
+"$here/.ci/edges" --below hv_value > "$work/crates.txt"
+for name in $(cut -d: -f1 "$work/crates.txt"); do
+    cp -r "$here/crates/$name" "$work/crates/"
+    rm -rf "$work/crates/$name/out"
 done
 cp "$here/HANDLES" "$work/"
-cat > "$work/crates.txt" <<'END'
-hv_items:
-hv_value: hv_items
-value_bench: hv_items hv_value
-END
+echo 'value_bench: hv_items hv_value' >> "$work/crates.txt"
 cat > "$work/crates/value_bench/src/main.rt" <<'END'
 //! Times the calls of hv_value on arrays of Ints.
 #![tactic(auto)]
