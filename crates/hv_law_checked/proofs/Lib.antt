@@ -6,3 +6,7 @@ pub mod Inside
 mod Placed
 -- accepted programs are safe
 mod Safe
+-- the first violation of the rules on tokens and on the grammar
+mod Unread
+-- the bytes before a refusal are whole characters
+mod Characters

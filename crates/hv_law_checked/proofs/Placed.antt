@@ -34,7 +34,7 @@ grammar_placed bytes tokens stop r l (lexical s h n) = inl (stop_lies bytes toke
 -- ---- names and types
 
 -- a first violation is a violation
-violated : (phases : List Phase) (tree : Tree) (r : Refusal) → IsFirstOf phases (core_tree tree) (Some r) → IsViolated (core_tree tree) r.rule r.place
+pub violated : (phases : List Phase) (tree : Tree) (r : Refusal) → IsFirstOf phases (core_tree tree) (Some r) → IsViolated (core_tree tree) r.rule r.place
 violated [] tree r h = cc
 violated (phase ∷ phases) tree r (inl h) = h.1.0.1
 violated (phase ∷ phases) tree r (inr h) = violated phases tree r h.1
